@@ -1,0 +1,4 @@
+pub mod Counts
+pub mod Modes
+pub mod Outside
+pub mod Paths

@@ -1,0 +1,14 @@
+//! Names, paths and texts, and the traits of what a run reads and writes.
+#![tactic(auto)]
+
+mod name;
+mod path;
+mod shelf;
+mod sink;
+mod text;
+
+pub use name::Name;
+pub use path::{MAX_PATH_BYTES, Path, rest_below};
+pub use shelf::{Shelf, ShelfEnd};
+pub use sink::Sink;
+pub use text::{Bytes, Failed, Memory, Text};
