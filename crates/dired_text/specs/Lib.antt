@@ -1,4 +1,6 @@
+pub mod Answers
 pub mod Counts
 pub mod Modes
 pub mod Outside
 pub mod Paths
+pub mod Resolve

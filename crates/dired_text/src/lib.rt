@@ -3,12 +3,14 @@
 
 mod name;
 mod path;
+mod resolving;
 mod shelf;
 mod sink;
 mod text;
 
 pub use name::Name;
 pub use path::{MAX_PATH_BYTES, Path, rest_below};
+pub use resolving::{NameError, resolve};
 pub use shelf::{Shelf, ShelfEnd};
 pub use sink::Sink;
 pub use text::{Bytes, Failed, Memory, Text};
