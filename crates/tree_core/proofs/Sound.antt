@@ -1,5 +1,5 @@
 -- Each changing call that is lawful leaves a tree.
-use Rattle.std.proofs.Common.{◌≡◌, ◌≢◌, ◌⊎◌, inl, inr, ⊎_elim, ℕ, ◌+◌, ◌<◌, ◌≤◌, Bool, true, false, cond, List, [], ◌∷◌, ◌++◌, length, refl, sym, ◌∙◌, ap, subst, arith, length-append, Option, Some, None, is_some, IsTrue, if◌then◌else◌, ◌==◌}
+use Rattle.std.proofs.Common.{lit≤, ◌≡◌, ◌≢◌, ◌⊎◌, inl, inr, ⊎_elim, ℕ, ◌+◌, ◌<◌, ◌≤◌, Bool, true, false, cond, List, [], ◌∷◌, ◌++◌, length, refl, sym, ◌∙◌, ap, subst, arith, length-append, Option, Some, None, is_some, IsTrue, if◌then◌else◌, ◌==◌}
 use Rattle.std.proofs.lemmas.Bool.{cond-true, cond-false, cases_Bool}
 use Rattle.std.proofs.lemmas.Option.{same_Some}
 use Rattle.std.specs.FinMap.{get, insert, remove, empty, get-insert, get-remove, get-empty}
@@ -11,7 +11,7 @@ use Rattle.tree_core.specs.declared.node.Change.{Change}
 use Rattle.tree_core.specs.declared.node.Change.TheVariants.{MakeDir, MakeLink, MakeHard, WriteFile, Rename, SetMode, Remove, RemoveDir, Sync}
 use Rattle.tree_core.specs.History.{History, Began, Then, IsSound, current_tree, next_number}
 use Rattle.std.specs.Option.{option_map}
-use Rattle.tree_core.specs.FileTree.{FileTree, IsTree, IsDir, IsAbsent, Stands, CanMake, CanDo, IsFile, is_dir_node, is_file_node, with_nodes, with_file_mode, set_mode_of, insert_same, done, next_after, root_tree}
+use Rattle.tree_core.specs.FileTree.{FileTree, IsTree, IsMode, IsLawful, IsDir, IsAbsent, Stands, CanMake, CanDo, IsFile, is_dir_node, is_file_node, with_nodes, with_file_mode, set_mode_of, insert_same, done, next_after, root_tree}
 use Rattle.tree_core.proofs.TreeLemmas.{tie, tie-other, dir_stands, absent_not, none_of, parent-push, get-with_nodes, renamed_tree, came_from}
 
 abbrev pub IsDirNode : Option Node → Type 0
@@ -50,7 +50,7 @@ module _ (t : FileTree) (p : Names) (node : Node) where
       (λ other. subst P (sym (shows q ∙ cond-false _ _ _ other)) (there (λ is. let yes = (path_decides q p).1 is in let both : true ≡ false = sym yes ∙ other in cc)))
       (cases_Bool (tie q p))
 
-  module _ (tree : IsTree t) (can : CanMake t p) (agrees : Agrees t node) where
+  module _ (tree : IsTree t) (can : CanMake t p) (agrees : Agrees t node) (is_lawful : IsLawful node) where
     kept_dir : (q : Names) → IsDir t q → IsDir (insert t p node) q
     kept_dir q dir = subst IsDirNode (sym (get-inserted_other q (λ is. absent_not _ can.absent (subst (Stands t) is (dir_stands _ dir))))) dir
 
@@ -70,7 +70,12 @@ module _ (t : FileTree) (p : Names) (node : Node) where
         at_q
 
     pub inserted_tree : IsTree (insert t p node)
-    inserted_tree = record { root = kept_dir [] tree.root; parents = parents; alike = alike }
+    inserted_tree = record {
+      root = kept_dir [] tree.root;
+      parents = parents;
+      alike = alike;
+      lawful = λ q n. by_place q (λ o. o ≡ Some n → IsLawful n) (λ _ here. subst IsLawful (same_Some _ _ here) is_lawful) (λ _ there. tree.lawful q n there);
+    }
 
 -- ---- what is gone
 
@@ -94,6 +99,7 @@ module _ (t : FileTree) (p : Names) where
       parents = λ q n. by_removal (q ++ n ∷ []) (λ o. IsTrue (is_some o) → IsDir (remove t p) q) (λ _ none. cc)
           (λ _ stands. left_dir q (λ is. absent_not _ (no_child n) (subst (λ l. Stands t (l ++ n ∷ [])) is stands)) (tree.parents q n stands));
       alike = λ q r number b c m k at_q at_r. tree.alike q r number b c m k (was_there q _ at_q) (was_there r _ at_r);
+      lawful = λ q n e. tree.lawful q n (was_there q n e);
     }
 
 no_child_of : (t : FileTree) → IsTree t → (p : Names) → (IsDir t p → ⊥) → (n : List ℕ) → IsAbsent t (p ++ n ∷ [])
@@ -140,8 +146,17 @@ module _ (t : FileTree) (number mode : ℕ) where
   changed_dir : (q : Names) → IsDir t q → IsDir (with_nodes changed t) q
   changed_dir q dir = ap is_dir_node (shows_changed q) ∙ dir_same (get t q) ∙ dir
 
-  pub changed_tree : IsTree t → IsTree (with_nodes changed t)
-  changed_tree tree = record {
+  lawful_changed : IsMode mode → (node : Node) → IsLawful node → IsLawful (changed node)
+  lawful_changed is_mode (Dir m) is_lawful = is_lawful
+  lawful_changed is_mode (Link target) is_lawful = is_lawful
+  lawful_changed is_mode (File n b m) is_lawful = elim (n == number) as (λ c. IsMode (if c then mode else m)) [ true ↦ is_mode | false ↦ is_lawful ]
+
+  was_lawful : IsTree t → IsMode mode → (q : Names) (node : Node) (o : Option Node) → get t q ≡ o → option_map changed o ≡ Some node → IsLawful node
+  was_lawful tree is_mode q node None e shown = cc
+  was_lawful tree is_mode q node (Some old) e shown = subst IsLawful (same_Some _ _ shown) (lawful_changed is_mode old (tree.lawful q old e))
+
+  pub changed_tree : IsTree t → IsMode mode → IsTree (with_nodes changed t)
+  changed_tree tree is_mode = record {
     root = changed_dir [] tree.root;
     parents = λ q n stands. changed_dir q (tree.parents q n (sym (some_same (get t (q ++ n ∷ []))) ∙ ap is_some (sym (shows_changed (q ++ n ∷ []))) ∙ stands));
     alike = λ q r n b c m k at_q at_r.
@@ -149,14 +164,16 @@ module _ (t : FileTree) (number mode : ℕ) where
         let two = before (get t r) n c k (sym (shows_changed r) ∙ at_r) in
         let same = tree.alike q r n b c one.old two.old one.was two.was in
         (same.0, one.now ∙ ap (λ x. if n == number then mode else x) same.1 ∙ sym two.now);
+    lawful = λ q node e. was_lawful tree is_mode q node (get t q) refl (sym (shows_changed q) ∙ e);
   }
 
 -- a directory in the place of a directory
-redone_tree : (t : FileTree) (p : Names) (mode : ℕ) → IsTree t → IsDir t p → IsTree (insert t p (Dir mode))
-redone_tree t p mode tree dir = record {
+redone_tree : (t : FileTree) (p : Names) (mode : ℕ) → IsTree t → IsDir t p → IsMode mode → IsTree (insert t p (Dir mode))
+redone_tree t p mode tree dir is_mode = record {
   root = dir_at [] tree.root;
   parents = λ q n stands. dir_at q (tree.parents q n (by_place t p (Dir mode) (q ++ n ∷ []) (λ o. IsTrue (is_some o) → Stands t (q ++ n ∷ [])) (λ is _. subst (Stands t) (sym is) (dir_stands _ dir)) (λ _ s. s) stands));
   alike = λ q r n b c m k at_q at_r. tree.alike q r n b c m k (file_was q n b m at_q) (file_was r n c k at_r);
+  lawful = λ q node. by_place t p (Dir mode) q (λ o. o ≡ Some node → IsLawful node) (λ _ here. subst IsLawful (same_Some _ _ here) is_mode) (λ _ there. tree.lawful q node there);
 }
   where
     dir_at : (q : Names) → IsDir t q → IsDir (insert t p (Dir mode)) q
@@ -167,24 +184,24 @@ redone_tree t p mode tree dir = record {
 
 -- ---- every change
 
-mode_tree : (o : Option Node) (t : FileTree) (p : Names) (mode : ℕ) → get t p ≡ o → IsTree t → IsTree (set_mode_of o t p mode)
-mode_tree None t p mode e tree = tree
-mode_tree (Some (Dir m)) t p mode e tree = redone_tree t p mode tree (ap is_dir_node e)
-mode_tree (Some (Link target)) t p mode e tree = tree
-mode_tree (Some (File n b m)) t p mode e tree = changed_tree t n mode tree
+mode_tree : (o : Option Node) (t : FileTree) (p : Names) (mode : ℕ) → get t p ≡ o → IsTree t → IsMode mode → IsTree (set_mode_of o t p mode)
+mode_tree None t p mode e tree is_mode = tree
+mode_tree (Some (Dir m)) t p mode e tree is_mode = redone_tree t p mode tree (ap is_dir_node e) is_mode
+mode_tree (Some (Link target)) t p mode e tree is_mode = tree
+mode_tree (Some (File n b m)) t p mode e tree is_mode = changed_tree t n mode tree is_mode
 
 hard_tree : (o : Option Node) (t : FileTree) (p old : Names) → get t old ≡ o → IsTree t → CanMake t p → IsTree (insert_same o t p)
 hard_tree None t p old e tree can = tree
-hard_tree (Some node) t p old e tree can = inserted_tree t p node tree can (agrees-same t tree old node e)
+hard_tree (Some node) t p old e tree can = inserted_tree t p node tree can (agrees-same t tree old node e) (tree.lawful old node e)
 
 tree_then : (change : Change) (s : History) → IsSound s → CanDo change (current_tree s) → IsTree (current_tree (Then s change))
-tree_then (MakeDir p mode) s sound can = inserted_tree _ p (Dir mode) sound.tree can.0 (agrees-dir _ mode)
-tree_then (MakeLink p target) s sound can = inserted_tree _ p (Link target) sound.tree can.0 (agrees-link _ target)
+tree_then (MakeDir p mode) s sound can = inserted_tree _ p (Dir mode) sound.tree can.0 (agrees-dir _ mode) can.1
+tree_then (MakeLink p target) s sound can = inserted_tree _ p (Link target) sound.tree can.0 (agrees-link _ target) can.1
 tree_then (MakeHard p old) s sound can = hard_tree (get (current_tree s) old) _ p old refl sound.tree can.0
 tree_then (WriteFile p bytes mode) s sound can = inserted_tree _ p (File (next_number s) bytes mode) sound.tree can.0
-    (λ q number b c m k is at_q. absurd (let below = sound.above q number c k at_q in let same : next_number s ≡ number = cc in omega arith))
+    (λ q number b c m k is at_q. absurd (let below = sound.above q number c k at_q in let same : next_number s ≡ number = cc in omega arith)) can.1
 tree_then (Rename from to) s sound can = renamed_tree _ from to sound.tree can
-tree_then (SetMode p mode) s sound can = mode_tree (get (current_tree s) p) _ p mode refl sound.tree
+tree_then (SetMode p mode) s sound can = mode_tree (get (current_tree s) p) _ p mode refl sound.tree can.1
 tree_then (Remove p) s sound can = removed_tree _ p sound.tree (not_root_of _ sound.tree p can.1) (no_child_of _ sound.tree p can.1)
 tree_then (RemoveDir p) s sound can = removed_tree _ p sound.tree can.1 can.2
 tree_then Sync s sound can = sound.tree
@@ -250,12 +267,17 @@ no_file : (b : Bool) (number : ℕ) (bytes : List ℕ) (mode : ℕ) → cond b (
 no_file true number bytes mode e = cc
 no_file false number bytes mode e = cc
 
+root_lawful : (b : Bool) (node : Node) → cond b (Some (Dir 493)) None ≡ Some node → IsLawful node
+root_lawful true node e = subst IsLawful (same_Some _ _ e) (lit≤ tt)
+root_lawful false node e = cc
+
 pub root_sound : IsSound (Began root_tree 0)
 root_sound = record {
   tree = record {
     root = ap is_dir_node (root_shows [] ∙ cond-true (tie [] []) (Some (Dir 493)) None ((path_decides [] []).1 refl));
     parents = λ q n stands. absurd (absent_not _ (root_shows (q ++ n ∷ []) ∙ cond-false (tie (q ++ n ∷ []) []) (Some (Dir 493)) None (tie-other (q ++ n ∷ []) [] (not_empty q n))) stands);
     alike = λ q r number b c m k at_q at_r. absurd (no_file (tie q []) number b m (sym (root_shows q) ∙ at_q));
+    lawful = λ q node e. root_lawful (tie q []) node (sym (root_shows q) ∙ e);
   };
   above = λ q number b m at_q. absurd (no_file (tie q []) number b m (sym (root_shows q) ∙ at_q));
 }

@@ -254,4 +254,5 @@ module _ (t : FileTree) (from to : Names) (tree : IsTree t) (can : CanRename t f
         let from_p = came_from p (File number b m) at_p in
         let from_q = came_from q (File number c k) at_q in
         tree.alike from_p.path from_q.path number b c m k from_p.was from_q.was;
+    lawful = λ q node e. let from_q = came_from q node e in tree.lawful from_q.path node from_q.was;
   }
