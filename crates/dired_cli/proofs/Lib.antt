@@ -1,0 +1,3 @@
+mod NameLemmas
+mod OneLemmas
+mod ReportLemmas

@@ -1,0 +1,66 @@
+-- The numbers of the statuses, and their texts.
+use Rattle.std.specs.Prelude.{ℕ, Bool, true, false, List, [], ◌++◌, codes, decimal}
+use Rattle.tree_core.specs.declared.node.CallName.{CallName}
+use Rattle.tree_core.specs.declared.node.CallName.TheVariants.{Kind, Mode, IsEmpty, Meta, Names, Read, MakeDir, MakeLink, MakeHard, WriteFile, Rename, SetMode, Remove, RemoveDir, Sync}
+use Rattle.dired_cli.specs.declared.status.Counted.{Counted}
+use Rattle.dired_cli.specs.declared.status.Counted.TheVariants.{BufferBytes}
+use Rattle.dired_cli.specs.declared.status.Status.{Status}
+use Rattle.dired_cli.specs.declared.status.Status.TheVariants.{Done, Usage, Memory, ReadFault, TreeFault, WriteFault, Missing, Stale, TooLarge, NotBuilt}
+
+abbrev pub number_of : Status → ℕ
+number_of Done = 0
+number_of Usage = 1
+number_of Memory = 2
+number_of (ReadFault name) = 3
+number_of (TreeFault first) = 4
+number_of (WriteFault held) = 5
+number_of (Missing name) = 6
+number_of (Stale line) = 10
+number_of (TooLarge what number) = 18
+number_of (NotBuilt line) = 23
+
+abbrev pub call_text : CallName → List ℕ
+call_text Kind = codes "kind"
+call_text Mode = codes "mode"
+call_text IsEmpty = codes "is_empty"
+call_text Meta = codes "meta"
+call_text Names = codes "names"
+call_text Read = codes "read"
+call_text MakeDir = codes "make_dir"
+call_text MakeLink = codes "make_link"
+call_text MakeHard = codes "make_hard"
+call_text WriteFile = codes "write_file"
+call_text Rename = codes "rename"
+call_text SetMode = codes "set_mode"
+call_text Remove = codes "remove"
+call_text RemoveDir = codes "remove_dir"
+call_text Sync = codes "sync"
+
+abbrev pub counted_text : Counted → List ℕ
+counted_text BufferBytes = codes "BufferBytes"
+
+-- the text of a status, empty for one that has none
+abbrev pub text_of : Status → List ℕ
+text_of Done = []
+text_of Usage = codes "dired: usage: list, commit, run, recover or drill\n"
+text_of Memory = codes "dired: out of memory\n"
+text_of (ReadFault name) = codes "dired: cannot read " ++ name ++ codes "\n"
+text_of (TreeFault first) = codes "dired: " ++ call_text first ++ codes " failed; nothing was decided\n"
+text_of (WriteFault held) = []
+text_of (Missing name) = codes "dired: no such input: " ++ name ++ codes "\n"
+text_of (Stale line) = codes "dired: line " ++ decimal line ++ codes ": the file is not as shown\n"
+text_of (TooLarge what number) = codes "dired: too large: " ++ counted_text what ++ codes " " ++ decimal number ++ codes "\n"
+text_of (NotBuilt line) = codes "dired: line " ++ decimal line ++ codes ": not built yet\n"
+
+-- whether the text is written without memory
+abbrev pub has_fixed_text : Status → Bool
+has_fixed_text Done = true
+has_fixed_text Usage = true
+has_fixed_text Memory = true
+has_fixed_text (ReadFault name) = false
+has_fixed_text (TreeFault first) = true
+has_fixed_text (WriteFault held) = true
+has_fixed_text (Missing name) = false
+has_fixed_text (Stale line) = false
+has_fixed_text (TooLarge what number) = false
+has_fixed_text (NotBuilt line) = false

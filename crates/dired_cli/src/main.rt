@@ -1,0 +1,19 @@
+//! The program `dired`: a directory editor whose commits survive a crash at any moment.
+#![tactic(auto)]
+
+
+
+mod commit;
+mod reports;
+mod status;
+
+use std::io;
+
+
+
+pub use reports::report;
+pub use status::{Counted, Status};
+
+fn main(_rt: HostRuntime) -> io::Result<()> {
+    Ok(())
+}

@@ -1,0 +1,148 @@
+// What a run answers.
+ghost use Rattle.std.specs.Prelude.{◌≡◌, IfOk};
+ghost use Rattle.std.specs.String.{string_bytes};
+ghost use Rattle.dired_cli.specs.Statuses.{call_text as call_text_of};
+
+use dired_text::{Memory, Text};
+use std::alloc::Global;
+use tree_core::CallName;
+
+/// A quantity that has a limit.
+#[derive(Clone, Copy, Debug, PartialEq, Eq)]
+pub enum Counted {
+    /// The bytes of one buffer, at most 33,554,432.
+    BufferBytes,
+}
+
+/// What a run answers. Each has a number, with which the program exits, and all but `Done` and `WriteFault` a text, the
+/// last line that the run writes.
+#[derive(Debug, PartialEq, Eq, Drop)]
+pub enum Status {
+    /// All was done.
+    Done,
+    /// The words are no command.
+    Usage,
+    /// An allocation was refused. The tree is as before.
+    Memory,
+    /// The input of this name could not be read.
+    ReadFault { name: Text },
+    /// This call of the tree failed.
+    TreeFault { first: CallName },
+    /// The output could not be written. `held` is the number of the status whose text was being written, 0 for the
+    /// output of a command that was done.
+    WriteFault { held: u8 },
+    /// There is no input of this name.
+    Missing { name: Text },
+    /// The entry of this line, counted from 1, is not as the line shows it.
+    Stale { line: u32 },
+    /// A quantity is above its limit. `number` is the limit plus 1.
+    TooLarge { what: Counted, number: u64 },
+    /// This line, counted from 1, asks for something that the program can't do yet.
+    NotBuilt { line: u32 },
+}
+
+impl Status {
+    ghost use Rattle.dired_cli.specs.Statuses.{number_of, text_of, has_fixed_text};
+
+    /// The number with which the program exits.
+    pub fn number(&self) -> u8
+        ensures { result ≡ number_of self.now }
+    {
+        match self {
+            Status::Done => 0,
+            Status::Usage => 1,
+            Status::Memory => 2,
+            Status::ReadFault { .. } => 3,
+            Status::TreeFault { .. } => 4,
+            Status::WriteFault { .. } => 5,
+            Status::Missing { .. } => 6,
+            Status::Stale { .. } => 10,
+            Status::TooLarge { .. } => 18,
+            Status::NotBuilt { .. } => 23,
+        }
+    }
+
+    /// Whether the text is written without memory.
+    pub fn has_fixed_text(&self) -> bool
+        ensures { result ≡ has_fixed_text self.now }
+    {
+        !matches!(
+            self,
+            Status::ReadFault { .. }
+                | Status::Missing { .. }
+                | Status::Stale { .. }
+                | Status::TooLarge { .. }
+                | Status::NotBuilt { .. }
+        )
+    }
+
+    /// The text, which is empty for `Done` and `WriteFault`.
+    pub fn text(&self, alloc: Global) -> Result<String, Memory>
+        ensures { IfOk result (λ t. string_bytes t ≡ text_of self.now) }
+    {
+        match self {
+            Status::Done | Status::WriteFault { .. } => Ok(String::new(alloc)),
+            Status::Usage => Ok(String::from_str(alloc, USAGE)?),
+            Status::Memory => Ok(String::from_str(alloc, OUT_OF_MEMORY)?),
+            Status::ReadFault { name } => {
+                Ok(format!(in alloc; "dired: cannot read {}\n", name.as_str())?)
+            }
+            Status::TreeFault { first } => Ok(
+                format!(in alloc; "dired: {} failed; nothing was decided\n", call_text(*first))?,
+            ),
+            Status::Missing { name } => {
+                Ok(format!(in alloc; "dired: no such input: {}\n", name.as_str())?)
+            }
+            Status::Stale { line } => {
+                Ok(format!(in alloc; "dired: line {line}: the file is not as shown\n")?)
+            }
+            Status::TooLarge { what, number } => {
+                Ok(format!(in alloc; "dired: too large: {} {number}\n", what.name())?)
+            }
+            Status::NotBuilt { line } => {
+                Ok(format!(in alloc; "dired: line {line}: not built yet\n")?)
+            }
+        }
+    }
+}
+
+// The fixed texts, which are written without memory.
+pub const USAGE: &str = "dired: usage: list, commit, run, recover or drill\n";
+pub const OUT_OF_MEMORY: &str = "dired: out of memory\n";
+pub const NOTHING_DECIDED: &str = " failed; nothing was decided\n";
+
+/// The name of a call as texts have it.
+pub fn call_text(call: CallName) -> &'static str
+    ensures { result.now ≡ call_text_of call }
+{
+    match call {
+        CallName::Kind => "kind",
+        CallName::Mode => "mode",
+        CallName::IsEmpty => "is_empty",
+        CallName::Meta => "meta",
+        CallName::Names => "names",
+        CallName::Read => "read",
+        CallName::MakeDir => "make_dir",
+        CallName::MakeLink => "make_link",
+        CallName::MakeHard => "make_hard",
+        CallName::WriteFile => "write_file",
+        CallName::Rename => "rename",
+        CallName::SetMode => "set_mode",
+        CallName::Remove => "remove",
+        CallName::RemoveDir => "remove_dir",
+        CallName::Sync => "sync",
+    }
+}
+
+impl Counted {
+    ghost use Rattle.dired_cli.specs.Statuses.{counted_text};
+
+    /// The name of the quantity.
+    pub fn name(self) -> &'static str
+        ensures { result.now ≡ counted_text self }
+    {
+        match self {
+            Counted::BufferBytes => "BufferBytes",
+        }
+    }
+}
