@@ -8,6 +8,8 @@ mod path;
 mod resolving;
 mod shelf;
 mod sink;
+#[cfg(test)]
+mod tests;
 mod text;
 
 pub use mem_shelf::MemShelf;
