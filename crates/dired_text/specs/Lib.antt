@@ -1,5 +1,6 @@
 pub mod Answers
 pub mod Counts
+pub mod MemOutside
 pub mod Modes
 pub mod Outside
 pub mod Paths

@@ -1,13 +1,19 @@
 //! Names, paths and texts, and the traits of what a run reads and writes.
 #![tactic(auto)]
 
+mod mem_shelf;
+mod mem_sink;
 mod name;
 mod path;
 mod resolving;
 mod shelf;
 mod sink;
+#[cfg(test)]
+mod tests;
 mod text;
 
+pub use mem_shelf::MemShelf;
+pub use mem_sink::MemSink;
 pub use name::Name;
 pub use path::{MAX_PATH_BYTES, Path, rest_below};
 pub use resolving::{NameError, resolve};
