@@ -1,6 +1,7 @@
 //! Names, paths and texts, and the traits of what a run reads and writes.
 #![tactic(auto)]
 
+mod modes;
 mod name;
 mod path;
 mod resolving;
@@ -8,6 +9,7 @@ mod shelf;
 mod sink;
 mod text;
 
+pub use modes::{mode_text, read_mode};
 pub use name::Name;
 pub use path::{MAX_PATH_BYTES, Path, rest_below};
 pub use resolving::{NameError, resolve};
