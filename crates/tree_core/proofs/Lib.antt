@@ -1,0 +1,4 @@
+pub mod TreeLemmas
+pub mod Sound
+pub mod Torn
+pub mod Moments

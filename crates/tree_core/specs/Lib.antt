@@ -1,0 +1,3 @@
+pub mod FileTree
+pub mod History
+pub mod Faults
