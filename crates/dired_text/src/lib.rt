@@ -3,6 +3,7 @@
 
 mod mem_shelf;
 mod mem_sink;
+mod modes;
 mod name;
 mod path;
 mod resolving;
@@ -14,6 +15,7 @@ mod text;
 
 pub use mem_shelf::MemShelf;
 pub use mem_sink::MemSink;
+pub use modes::{mode_text, read_mode};
 pub use name::Name;
 pub use path::{MAX_PATH_BYTES, Path, rest_below};
 pub use resolving::{NameError, resolve};
