@@ -1,3 +1,5 @@
+pub mod Inputs
 pub mod Reports
 pub mod Statuses
 pub mod Verdicts
+pub mod Words

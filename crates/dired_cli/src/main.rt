@@ -4,8 +4,10 @@
 
 
 mod commit;
+mod inputs;
 mod reports;
 mod status;
+mod words;
 
 use std::io;
 
