@@ -5,6 +5,9 @@
 
 mod commit;
 mod inputs;
+mod real_inputs;
+mod real_output;
+mod real_tree;
 mod reports;
 mod status;
 mod words;
