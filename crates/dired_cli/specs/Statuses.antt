@@ -64,3 +64,29 @@ has_fixed_text (Missing name) = false
 has_fixed_text (Stale line) = false
 has_fixed_text (TooLarge what number) = false
 has_fixed_text (NotBuilt line) = false
+
+-- a fact for want of memory, for a failed call of the tree, for a failed read of a name, and for each other status
+abbrev pub ByCause : Status → Type 0 → (CallName → Type 0) → (List ℕ → Type 0) → Type 0 → Type 0
+ByCause Done M F G R = R
+ByCause Usage M F G R = R
+ByCause Memory M F G R = M
+ByCause (ReadFault name) M F G R = G name
+ByCause (TreeFault first) M F G R = F first
+ByCause (WriteFault held) M F G R = R
+ByCause (Missing name) M F G R = R
+ByCause (Stale line) M F G R = R
+ByCause (TooLarge what number) M F G R = R
+ByCause (NotBuilt line) M F G R = R
+
+-- a status that is given before the last line is written, and that isn't Done
+abbrev pub IsRefusal : Status → Type 0
+IsRefusal Done = ⊥
+IsRefusal Usage = Unit {0}
+IsRefusal Memory = Unit {0}
+IsRefusal (ReadFault name) = Unit {0}
+IsRefusal (TreeFault first) = Unit {0}
+IsRefusal (WriteFault held) = ⊥
+IsRefusal (Missing name) = Unit {0}
+IsRefusal (Stale line) = Unit {0}
+IsRefusal (TooLarge what number) = Unit {0}
+IsRefusal (NotBuilt line) = Unit {0}

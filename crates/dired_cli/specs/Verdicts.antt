@@ -10,7 +10,7 @@ use Rattle.tree_core.specs.FileTree.{FileTree, renamed}
 use Rattle.tree_core.specs.History.{History, current_tree, IsDurable}
 use Rattle.dired_cli.specs.declared.commit.NameChange.{NameChange}
 use Rattle.dired_cli.specs.declared.status.Status.{Status}
-use Rattle.dired_cli.specs.declared.status.Status.TheVariants.{Done, Usage, Memory, ReadFault, TreeFault, WriteFault, Missing, Stale, TooLarge, NotBuilt}
+use Rattle.dired_cli.specs.declared.status.Status.TheVariants.{Done, Stale, NotBuilt}
 
 -- a refusal; or the tree stays, or one path gets another name
 pub data Verdict : Type 0 where
@@ -66,19 +66,6 @@ abbrev pub FaultLeaves : CallName → FileTree → FileTree → FileTree → Fil
 FaultLeaves first old new found now =
     ((found ≡ old) × ((now ≡ old) ⊎ ((first ≡ call.Rename) × (now ≡ new))))
     ⊎ ((first ≡ call.Sync) × (found ≡ new) × (now ≡ new))
-
--- a fact for want of memory, for a failed call, and for each other status
-abbrev pub EndsBy : Status → Type 0 → (CallName → Type 0) → Type 0 → Type 0
-EndsBy Done M F R = R
-EndsBy Usage M F R = R
-EndsBy Memory M F R = M
-EndsBy (ReadFault name) M F R = R
-EndsBy (TreeFault first) M F R = F first
-EndsBy (WriteFault held) M F R = R
-EndsBy (Missing name) M F R = R
-EndsBy (Stale line) M F R = R
-EndsBy (TooLarge what number) M F R = R
-EndsBy (NotBuilt line) M F R = R
 
 -- what a request for a new name keeps: both paths have one name
 abbrev pub CanBeAsked : Option NameChange → Type 0

@@ -4,7 +4,8 @@ ghost use Rattle.std.specs.FinMap.{get};
 ghost use Rattle.tree_core.specs.FileTree.{CanRename, renamed};
 ghost use Rattle.tree_core.specs.History.{current_tree, IsDurable, LeavesOnly, FailedAt};
 ghost use Rattle.tree_core.specs.Faults.{with_fault};
-ghost use Rattle.dired_cli.specs.Verdicts.{IsOldOrEdited, FaultLeaves, is_file_of, IsLook, on_tree, edited, EndsBy, summary_text, Keeps, Refuses, Renames, CanBeAsked, IsDone};
+ghost use Rattle.dired_cli.specs.Statuses.{ByCause, IsRefusal};
+ghost use Rattle.dired_cli.specs.Verdicts.{IsOldOrEdited, FaultLeaves, is_file_of, IsLook, on_tree, edited, summary_text, Keeps, Refuses, Renames, CanBeAsked, IsDone};
 
 use crate::Status;
 use dired_text::{Failed, Memory, Path, Text};
@@ -59,14 +60,16 @@ pub fn carry_out<T: Tree>(alloc: Global, tree: &mut T, asked: Option<NameChange>
     requires durable { T.Tells → IsDurable (T.history tree.old) }
 
     ensures done { T.Tells → IfOk result (λ text. IsDone (on_tree asked (current_tree (T.history tree.old))) (current_tree (T.history tree.old)) (T.history tree.new) text) }
-    ensures refused { T.Tells → IfErr result (λ status. EndsBy status
+    ensures refused { T.Tells → IfErr result (λ status. ByCause status
         (T.history tree.new ≡ T.history tree.old)
         (λ first. FaultLeaves first (current_tree (T.history tree.old)) (edited (on_tree asked (current_tree (T.history tree.old))) (current_tree (T.history tree.old))) (T.before_failed tree.new) (current_tree (T.history tree.new)))
+        (λ _. ⊥)
         ((on_tree asked (current_tree (T.history tree.old)) ≡ Refuses status) × (T.history tree.new ≡ T.history tree.old))) }
     ensures any_moment { T.Tells → LeavesOnly (T.history tree.old) (T.history tree.new)
         (IsOldOrEdited (current_tree (T.history tree.old)) (edited (on_tree asked (current_tree (T.history tree.old))) (current_tree (T.history tree.old)))) }
     ensures cause { MatchResult result (λ _. T.faults tree.new ≡ T.faults tree.old)
-        (λ status. EndsBy status (T.faults tree.new ≡ T.faults tree.old) (λ first. T.faults tree.new ≡ with_fault first (T.faults tree.old)) (T.faults tree.new ≡ T.faults tree.old)) }
+        (λ status. ByCause status (T.faults tree.new ≡ T.faults tree.old) (λ first. T.faults tree.new ≡ with_fault first (T.faults tree.old)) (λ _. ⊥) (T.faults tree.new ≡ T.faults tree.old)) }
+    ensures end { IfErr result IsRefusal }
 {
     match asked {
         None => sync_alone(alloc, tree),
@@ -79,14 +82,15 @@ fn sync_alone<T: Tree>(alloc: Global, tree: &mut T) -> Result<Text, Status>
     requires durable { T.Tells → IsDurable (T.history tree.old) }
 
     ensures done { T.Tells → IfOk result (λ text. IsDone Keeps (current_tree (T.history tree.old)) (T.history tree.new) text) }
-    ensures refused { T.Tells → IfErr result (λ status. EndsBy status
+    ensures refused { T.Tells → IfErr result (λ status. ByCause status
         (T.history tree.new ≡ T.history tree.old)
         (λ first. FaultLeaves first (current_tree (T.history tree.old)) (current_tree (T.history tree.old)) (T.before_failed tree.new) (current_tree (T.history tree.new)))
-        ⊥) }
+        (λ _. ⊥) ⊥) }
     ensures any_moment { T.Tells → LeavesOnly (T.history tree.old) (T.history tree.new)
         (IsOldOrEdited (current_tree (T.history tree.old)) (current_tree (T.history tree.old))) }
     ensures cause { MatchResult result (λ _. T.faults tree.new ≡ T.faults tree.old)
-        (λ status. EndsBy status (T.faults tree.new ≡ T.faults tree.old) (λ first. T.faults tree.new ≡ with_fault first (T.faults tree.old)) ⊥) }
+        (λ status. ByCause status (T.faults tree.new ≡ T.faults tree.old) (λ first. T.faults tree.new ≡ with_fault first (T.faults tree.old)) (λ _. ⊥) ⊥) }
+    ensures end { IfErr result IsRefusal }
 {
     let Ok(text) = summary(alloc, 0) else {
         return Err(Status::Memory);
@@ -106,14 +110,16 @@ fn commit_change<T: Tree>(alloc: Global, tree: &mut T, change: &NameChange) -> R
     requires durable { T.Tells → IsDurable (T.history tree.old) }
 
     ensures done { T.Tells → IfOk result (λ text. IsDone (on_tree (Some change.now) (current_tree (T.history tree.old))) (current_tree (T.history tree.old)) (T.history tree.new) text) }
-    ensures refused { T.Tells → IfErr result (λ status. EndsBy status
+    ensures refused { T.Tells → IfErr result (λ status. ByCause status
         (T.history tree.new ≡ T.history tree.old)
         (λ first. FaultLeaves first (current_tree (T.history tree.old)) (edited (on_tree (Some change.now) (current_tree (T.history tree.old))) (current_tree (T.history tree.old))) (T.before_failed tree.new) (current_tree (T.history tree.new)))
+        (λ _. ⊥)
         ((on_tree (Some change.now) (current_tree (T.history tree.old)) ≡ Refuses status) × (T.history tree.new ≡ T.history tree.old))) }
     ensures any_moment { T.Tells → LeavesOnly (T.history tree.old) (T.history tree.new)
         (IsOldOrEdited (current_tree (T.history tree.old)) (edited (on_tree (Some change.now) (current_tree (T.history tree.old))) (current_tree (T.history tree.old)))) }
     ensures cause { MatchResult result (λ _. T.faults tree.new ≡ T.faults tree.old)
-        (λ status. EndsBy status (T.faults tree.new ≡ T.faults tree.old) (λ first. T.faults tree.new ≡ with_fault first (T.faults tree.old)) (T.faults tree.new ≡ T.faults tree.old)) }
+        (λ status. ByCause status (T.faults tree.new ≡ T.faults tree.old) (λ first. T.faults tree.new ≡ with_fault first (T.faults tree.old)) (λ _. ⊥) (T.faults tree.new ≡ T.faults tree.old)) }
+    ensures end { IfErr result IsRefusal }
 {
     look(tree, change)?;
     let Ok(text) = summary(alloc, 1) else {
@@ -128,10 +134,11 @@ fn commit_change<T: Tree>(alloc: Global, tree: &mut T, change: &NameChange) -> R
 // Whether the change can be made: its line is as shown, and nothing stands at its new path.
 fn look<T: Tree>(tree: &mut T, change: &NameChange) -> Result<(), Status>
     ensures ok { T.Tells → OnOk result (on_tree (Some change.now) (current_tree (T.history tree.old)) ≡ Renames change.now.source change.now.to) }
-    ensures refused { T.Tells → IfErr result (λ status. EndsBy status ⊥ (λ first. T.before_failed tree.new ≡ current_tree (T.history tree.old)) (on_tree (Some change.now) (current_tree (T.history tree.old)) ≡ Refuses status)) }
+    ensures refused { T.Tells → IfErr result (λ status. ByCause status ⊥ (λ first. T.before_failed tree.new ≡ current_tree (T.history tree.old)) (λ _. ⊥) (on_tree (Some change.now) (current_tree (T.history tree.old)) ≡ Refuses status)) }
     ensures history { T.Tells → T.history tree.new ≡ T.history tree.old }
     ensures cause { MatchResult result (λ _. T.faults tree.new ≡ T.faults tree.old)
-        (λ status. EndsBy status ⊥ (λ first. IsLook first × (T.faults tree.new ≡ with_fault first (T.faults tree.old))) (T.faults tree.new ≡ T.faults tree.old)) }
+        (λ status. ByCause status ⊥ (λ first. IsLook first × (T.faults tree.new ≡ with_fault first (T.faults tree.old))) (λ _. ⊥) (T.faults tree.new ≡ T.faults tree.old)) }
+    ensures end { IfErr result IsRefusal }
 {
     match is_as_shown(tree, &change.source, change.mode) {
         Err(first) => return Err(Status::TreeFault { first }),

@@ -1,7 +1,8 @@
 // What is read.
-ghost use Rattle.std.specs.Prelude.{◌≡◌, MatchResult, Some, Ok, Err};
+ghost use Rattle.std.specs.Prelude.{◌≡◌, MatchResult, IfErr, Some, Ok, Err};
 ghost use Rattle.dired_text.specs.Counts.{raised};
-ghost use Rattle.dired_cli.specs.Inputs.{input_of, ReadEndsBy};
+ghost use Rattle.dired_cli.specs.Inputs.{input_of};
+ghost use Rattle.dired_cli.specs.Statuses.{ByCause, IsRefusal};
 
 use crate::{Counted, Status};
 use dired_text::{Bytes, Shelf, ShelfEnd, Text};
@@ -16,10 +17,11 @@ pub const MAX_BUFFER_BYTES: u64 = 33_554_432;
 /// `Missing`, `TooLarge`, `ReadFault`, or want of memory.
 pub fn read_input<H: Shelf>(alloc: Global, shelf: &mut H, name: &str) -> Result<Bytes, Status>
     ensures read { H.Tells → MatchResult result (λ bytes. input_of (H.files shelf.old) name.now ≡ Ok bytes)
-        (λ status. ReadEndsBy status (Unit {0}) (λ failed. H.last_failed shelf.new ≡ Some failed) (input_of (H.files shelf.old) name.now ≡ Err status)) }
+        (λ status. ByCause status (Unit {0}) (λ _. ⊥) (λ failed. H.last_failed shelf.new ≡ Some failed) (input_of (H.files shelf.old) name.now ≡ Err status)) }
     ensures files { H.Tells → H.files shelf.new ≡ H.files shelf.old }
     ensures count { MatchResult result (λ _. H.faults shelf.new ≡ H.faults shelf.old)
-        (λ status. ReadEndsBy status (H.faults shelf.new ≡ H.faults shelf.old) (λ failed. H.faults shelf.new ≡ raised (H.faults shelf.old)) (H.faults shelf.new ≡ H.faults shelf.old)) }
+        (λ status. ByCause status (H.faults shelf.new ≡ H.faults shelf.old) (λ _. ⊥) (λ failed. H.faults shelf.new ≡ raised (H.faults shelf.old)) (H.faults shelf.new ≡ H.faults shelf.old)) }
+    ensures end { IfErr result IsRefusal }
 {
     // The name is copied first, so that a failed read is never told as want of memory.
     let Ok(kept) = Text::copy_of(alloc, name) else {

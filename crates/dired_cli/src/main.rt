@@ -5,10 +5,12 @@
 
 mod commit;
 mod inputs;
+mod program;
 mod real_inputs;
 mod real_output;
 mod real_tree;
 mod reports;
+mod requests;
 mod status;
 mod words;
 

@@ -1,0 +1,91 @@
+// The top call.
+ghost use Rattle.std.specs.Prelude.{◌≡◌, ℕ, List, MatchResult, IfOk, IfErr, Some, Ok, Err, false, map};
+ghost use Rattle.std.specs.String.{string_bytes};
+ghost use Rattle.dired_text.specs.Counts.{raised};
+ghost use Rattle.tree_core.specs.History.{current_tree, IsDurable, LeavesOnly};
+ghost use Rattle.tree_core.specs.Faults.{with_fault};
+ghost use Rattle.dired_cli.specs.Statuses.{ByCause, IsRefusal};
+ghost use Rattle.dired_cli.specs.Verdicts.{IsOldOrEdited, FaultLeaves, edited, Refuses, IsDone};
+ghost use Rattle.tree_core.specs.declared.node.CallName.{CallName as Call};
+ghost use Rattle.dired_cli.specs.declared.status.Status.TheVariants.{TreeFault, ReadFault, WriteFault};
+ghost use Rattle.dired_cli.specs.Reports.{Said};
+ghost use Rattle.dired_cli.specs.Runs.{verdict, Decides, line_of, is_fault};
+
+use crate::Status;
+use crate::commit::carry_out;
+use crate::reports::report;
+use crate::requests::asked_for;
+use crate::words::commit_words;
+use dired_text::{Shelf, Sink, Text};
+use std::alloc::Global;
+use tree_core::Tree;
+
+/// Carries out the words of a command line, and answers the status. Its text, or at `Done` the summary, is the last line
+/// written.
+///
+/// `commit BEFORE AFTER` compares a listing as printed with the same listing as edited, and gives one file its new name.
+pub fn run<T: Tree, H: Shelf, W: Sink>(
+    alloc: Global,
+    words: &[String],
+    tree: &mut T,
+    shelf: &mut H,
+    sink: &mut W,
+) -> Status
+    // Nothing is pending when the run begins.
+    requires durable { T.Tells → IsDurable (T.history tree.old) }
+
+    // The status is decided by the verdict, by the first failed call or by want of memory, and then its line is written.
+    ensures outcome { T.Tells → H.Tells → (decided : Status) ×
+        (Decides (verdict (map string_bytes words.now) (H.files shelf.old) (current_tree (T.history tree.old)))
+            (record { history = T.history tree.old; tree_faults = T.faults tree.old; found = T.before_failed tree.old; read_faults = H.faults shelf.old; last_read = H.last_failed shelf.old })
+            (record { history = T.history tree.new; tree_faults = T.faults tree.new; found = T.before_failed tree.new; read_faults = H.faults shelf.new; last_read = H.last_failed shelf.new })
+            decided
+        × Said W.Tells decided (line_of (verdict (map string_bytes words.now) (H.files shelf.old) (current_tree (T.history tree.old))) decided)
+            (W.taken sink.old) (W.taken sink.new) (W.faults sink.old) (W.faults sink.new) result) }
+
+    // Stopped at any moment, whatever failed, the tree is the old one or the edited one.
+    ensures any_moment { T.Tells → H.Tells → LeavesOnly (T.history tree.old) (T.history tree.new)
+        (IsOldOrEdited (current_tree (T.history tree.old)) (edited (verdict (map string_bytes words.now) (H.files shelf.old) (current_tree (T.history tree.old))) (current_tree (T.history tree.old)))) }
+
+    // A fault comes only where a call of that object failed in this run, and is named. Every other status comes only where
+    // no call failed.
+    ensures tree_fault { (first : Call) → result ≡ TreeFault first → T.faults tree.new ≡ with_fault first (T.faults tree.old) }
+    ensures read_fault { (failed : List ℕ) → result ≡ ReadFault failed → (H.faults shelf.new ≡ raised (H.faults shelf.old)) × (H.Tells → H.last_failed shelf.new ≡ Some failed) }
+    ensures write_fault { (held : ℕ) → result ≡ WriteFault held → W.faults sink.new ≡ raised (W.faults sink.old) }
+    ensures no_fault { is_fault result ≡ false → (T.faults tree.new ≡ T.faults tree.old) × (H.faults shelf.new ≡ H.faults shelf.old) × (W.faults sink.new ≡ W.faults sink.old) }
+{
+    let ended = decide(alloc, words, tree, shelf);
+    report(alloc, ended, sink)
+}
+
+// Does what the words ask for, and answers the output or the refusal.
+fn decide<T: Tree, H: Shelf>(
+    alloc: Global,
+    words: &[String],
+    tree: &mut T,
+    shelf: &mut H,
+) -> Result<Text, Status>
+    requires durable { T.Tells → IsDurable (T.history tree.old) }
+
+    ensures done { T.Tells → H.Tells → IfOk result (λ text. IsDone (verdict (map string_bytes words.now) (H.files shelf.old) (current_tree (T.history tree.old))) (current_tree (T.history tree.old)) (T.history tree.new) text) }
+    ensures refused { T.Tells → H.Tells → IfErr result (λ status. ByCause status
+        (T.history tree.new ≡ T.history tree.old)
+        (λ first. FaultLeaves first (current_tree (T.history tree.old)) (edited (verdict (map string_bytes words.now) (H.files shelf.old) (current_tree (T.history tree.old))) (current_tree (T.history tree.old))) (T.before_failed tree.new) (current_tree (T.history tree.new)))
+        (λ failed. (T.history tree.new ≡ T.history tree.old) × (H.last_failed shelf.new ≡ Some failed))
+        ((verdict (map string_bytes words.now) (H.files shelf.old) (current_tree (T.history tree.old)) ≡ Refuses status) × (T.history tree.new ≡ T.history tree.old))) }
+    ensures any_moment { T.Tells → H.Tells → LeavesOnly (T.history tree.old) (T.history tree.new)
+        (IsOldOrEdited (current_tree (T.history tree.old)) (edited (verdict (map string_bytes words.now) (H.files shelf.old) (current_tree (T.history tree.old))) (current_tree (T.history tree.old)))) }
+    ensures tree_count { MatchResult result (λ _. T.faults tree.new ≡ T.faults tree.old)
+        (λ status. ByCause status (T.faults tree.new ≡ T.faults tree.old) (λ first. T.faults tree.new ≡ with_fault first (T.faults tree.old)) (λ _. T.faults tree.new ≡ T.faults tree.old) (T.faults tree.new ≡ T.faults tree.old)) }
+    ensures shelf_count { MatchResult result (λ _. H.faults shelf.new ≡ H.faults shelf.old)
+        (λ status. ByCause status (H.faults shelf.new ≡ H.faults shelf.old) (λ _. H.faults shelf.new ≡ H.faults shelf.old) (λ failed. H.faults shelf.new ≡ raised (H.faults shelf.old)) (H.faults shelf.new ≡ H.faults shelf.old)) }
+    ensures end { IfErr result IsRefusal }
+{
+    let Some((before, after)) = commit_words(words) else {
+        return Err(Status::Usage);
+    };
+    match asked_for(alloc, before, after, shelf) {
+        Ok(asked) => carry_out(alloc, tree, asked),
+        Err(status) => Err(status),
+    }
+}
