@@ -1,6 +1,7 @@
 //! Names, paths and texts, and the traits of what a run reads and writes.
 #![tactic(auto)]
 
+mod escaping;
 mod mem_shelf;
 mod mem_sink;
 mod name;
@@ -12,6 +13,7 @@ mod sink;
 mod tests;
 mod text;
 
+pub use escaping::{EscapeError, escape};
 pub use mem_shelf::MemShelf;
 pub use mem_sink::MemSink;
 pub use name::Name;
