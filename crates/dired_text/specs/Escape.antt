@@ -1,8 +1,8 @@
 -- Texts on one line of ASCII controls: how each byte is spelled, and what a spelling stands for.
-use Rattle.std.specs.Prelude.{◌≡◌, ◌<◌, ◌≤◌, ℕ, zero, suc, ◌+◌, ◌-◌, ◌*◌, ◌/◌, ◌%◌, ◌==◌, Bool, ◌&&◌, ◌||◌, nat_lt, nat_le, List, [], ◌∷◌, ◌++◌, Option, Some, None, Result, Ok, Err, if◌then◌else◌, flat_map}
+use Rattle.std.specs.Prelude.{◌≡◌, ◌⊎◌, ◌≤◌, ℕ, zero, suc, ◌+◌, ◌-◌, ◌*◌, ◌/◌, ◌%◌, ◌==◌, Bool, ◌&&◌, ◌||◌, nat_lt, nat_le, length, drop, List, [], ◌∷◌, ◌++◌, Option, Some, None, Result, Ok, Err, if◌then◌else◌, flat_map, position}
 use Rattle.std.specs.Option.{option_map}
 use Rattle.dired_text.specs.declared.escaping.EscapeError.{EscapeError}
-use Rattle.dired_text.specs.declared.escaping.EscapeError.TheVariants.{BadEscape}
+use Rattle.dired_text.specs.declared.escaping.EscapeError.TheVariants.{BadEscape, Memory}
 
 -- `\`, and `>`, which ends the name of a link in a listing
 abbrev pub backslash : ℕ
@@ -76,3 +76,12 @@ unescaped_from place zero (b ∷ bs) = then_read place (behind b bs) (λ more. u
 
 abbrev pub unescaped : List ℕ → Result (List ℕ) EscapeError
 unescaped text = unescaped_from 0 0 text
+
+-- a byte is spelled behind a backslash at the head of a text, and this is what follows the spelling
+abbrev pub Spells : List ℕ → ℕ → List ℕ → Type 0
+Spells text b later = (n : ℕ) × (behind_backslash text ≡ Some (b, n)) × (n ≤ length text) × (later ≡ drop n text)
+
+-- a text that begins at this place and has no backslash was pushed, or refused at its first control byte
+abbrev pub PushesRaw : ℕ → List ℕ → Result (Unit {0}) EscapeError → List ℕ → List ℕ → Type 0
+PushesRaw place raw (Ok _) old new = (position is_control raw ≡ None) × (new ≡ old ++ raw)
+PushesRaw place raw (Err e) old new = (e ≡ Memory) ⊎ ((k : ℕ) × (position is_control raw ≡ Some k) × (e ≡ BadEscape (place + k)))

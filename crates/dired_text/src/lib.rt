@@ -9,11 +9,12 @@ mod path;
 mod resolving;
 mod shelf;
 mod sink;
+mod splitting;
 #[cfg(test)]
 mod tests;
 mod text;
 
-pub use escaping::{EscapeError, escape};
+pub use escaping::{EscapeError, escape, escapes_come_back, unescape};
 pub use mem_shelf::MemShelf;
 pub use mem_sink::MemSink;
 pub use name::Name;

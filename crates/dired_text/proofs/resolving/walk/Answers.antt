@@ -1,5 +1,6 @@
 use Rattle.std.proofs.Common.{rules, ◌≡◌, ◌∙◌, arith, Err}
-use Rattle.dired_text.proofs.ResolveLemmas.{walk-step, walk-refused, walk-last, length-parts}
+use Rattle.dired_text.proofs.ResolveLemmas.{walk-step, walk-refused, walk-last}
+use Rattle.dired_text.proofs.PlaceLemmas.{length-parts}
 use Rattle.dired_text.proofs.resolving.walk.Goals as goal
 
 pub returns-in_err-enter : goal.returns-in_err-enter
@@ -10,7 +11,7 @@ returns-in_err-enter c =
 pub loop-component-preserved : goal.loop-component-preserved
 loop-component-preserved c = (
   search rules,
-  omega (arith, length-parts _ _ _ c.in-Some.ensures.0),
+  omega (arith, length-parts _ _ _ _ c.in-Some.ensures.0),
   c.loop-component.invariant.2 ∙ walk-step _ _ _ _ _ _ c.in-Some.ensures.0 c.in-Some.ensures.1 c.in_ok-enter.ensures
 )
 
