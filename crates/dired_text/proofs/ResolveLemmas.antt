@@ -32,8 +32,8 @@ components-at c rest h = rw (components-split (c ++ slash ∷ rest), components-
 pub name_bytes : (c : List ℕ) → All (λ b. b ≢ slash) c → position (λ b. eqb b 0) c ≡ None → list_all is_name_byte c ≡ true
 name_bytes c h nul = list_all-from_AllPass is_name_byte c (λ k d l.
     and_from (not (eqb (get_or c k d) slash)) (not (eqb (get_or c k d) 0))
-      (not_from_false (eqb (get_or c k d) slash) (no_slash-test c h k d l))
-      (not_from_false (eqb (get_or c k d) 0) (none_passes (λ b. eqb b 0) c nul k d l)))
+    (not_from_false (eqb (get_or c k d) slash) (no_slash-test c h k d l))
+    (not_from_false (eqb (get_or c k d) 0) (none_passes (λ b. eqb b 0) c nul k d l)))
 
 not_empty : (c : List ℕ) → bytes_eq c [] ≡ false → 1 ≤ length c
 not_empty [] e = let absurd_fact : true ≡ false = e in cc
@@ -43,10 +43,10 @@ not_empty (b ∷ c) e = omega arith
 pub is_name-component : (c : List ℕ) → All (λ b. b ≢ slash) c → position (λ b. eqb b 0) c ≡ None → length c ≤ 255 → bytes_eq c [] ≡ false → bytes_eq c (codes ".") ≡ false → bytes_eq c (codes "..") ≡ false → IsTrue (is_name c)
 is_name-component c h nul short full one two =
     and_from (nat_le 1 (length c) && nat_le (length c) 255 && list_all is_name_byte c) (not (is_dots c))
-      (and_from (nat_le 1 (length c) && nat_le (length c) 255) (list_all is_name_byte c)
-        (and_from (nat_le 1 (length c)) (nat_le (length c) 255) (le-leb 1 (length c) (not_empty c full)) (le-leb (length c) 255 short))
-        (name_bytes c h nul))
-      (not_from_false (is_dots c) (or_from (bytes_eq c (codes ".")) (bytes_eq c (codes "..")) one two))
+    (and_from (nat_le 1 (length c) && nat_le (length c) 255) (list_all is_name_byte c)
+    (and_from (nat_le 1 (length c)) (nat_le (length c) 255) (le-leb 1 (length c) (not_empty c full)) (le-leb (length c) 255 short))
+    (name_bytes c h nul))
+    (not_from_false (is_dots c) (or_from (bytes_eq c (codes ".")) (bytes_eq c (codes "..")) one two))
 
 -- one component further
 pub walked-parts : (names : Names) (place : ℕ) (rest c later : List ℕ) → rest ≡ c ++ slash ∷ later → All (λ b. b ≢ slash) c → walked names place (components rest) ≡ then_from (entered names place c) (λ next. walked next (place + length c + 1) (components later))

@@ -61,8 +61,7 @@ pub fn unescape(alloc: Global, text: &str) -> Result<Text, EscapeError>
 /// Each text without NUL comes back: what `escape` makes of it stands for it.
 pub fn escapes_come_back(text: &str, in_link: bool)
     ensures { All (λ b. b ≢ 0) text.now → unescaped (escaped in_link text.now) ≡ Ok text.now }
-{
-}
+{}
 
 // Pushes a character as it is written on a line.
 fn push_escaped(line: &mut String, c: char, in_link: bool) -> Result<(), Memory>
@@ -167,9 +166,7 @@ fn octal_value(high: u8, middle: u8, low: u8) -> Option<u8>
     if !is_octal(high) || !is_octal(middle) || !is_octal(low) {
         return None;
     }
-    let value = u16::from(high - b'0') * 64
-        + u16::from(middle - b'0') * 8
-        + u16::from(low - b'0');
+    let value = u16::from(high - b'0') * 64 + u16::from(middle - b'0') * 8 + u16::from(low - b'0');
     if value < 1 || value > 127 {
         return None;
     }

@@ -70,12 +70,7 @@ fn walk(alloc: Global, names: &mut Vec<Name>, text: &str) -> Result<(), NameErro
 }
 
 // From a directory into a component, which begins at this place of the text.
-fn enter(
-    alloc: Global,
-    names: &mut Vec<Name>,
-    place: u64,
-    component: &str,
-) -> Result<(), NameError>
+fn enter(alloc: Global, names: &mut Vec<Name>, place: u64, component: &str) -> Result<(), NameError>
     requires component { All (λ b. b ≢ slash) component.now }
     requires place { place + length component.now < 2 ^ 64 }
     ensures { Walks (entered names.old.items place component.now) result names.new.items }
