@@ -1,12 +1,12 @@
 -- How a text splits into components, and which components are names.
-use Rattle.std.proofs.Common.{◌≡◌, ◌≢◌, ◌⊎◌, inl, inr, ℕ, ◌+◌, ◌<◌, ◌≤◌, Bool, true, false, cond, ◌&&◌, ◌||◌, not, nat_lt, nat_le, List, [], ◌∷◌, ◌++◌, length, get_or, refl, sym, ◌∙◌, ap, arith, All, Option, Some, None, MatchOption, position, IsTrue, codes, eqb, Result, Ok, Err, add_assoc, length-append}
+use Rattle.std.proofs.Common.{◌≡◌, ◌≢◌, ◌⊎◌, inl, inr, ℕ, ◌+◌, ◌<◌, ◌≤◌, Bool, true, false, cond, ◌&&◌, ◌||◌, not, nat_lt, nat_le, List, [], ◌∷◌, ◌++◌, length, get_or, refl, sym, ◌∙◌, ap, arith, All, Option, Some, None, MatchOption, position, IsTrue, codes, eqb, Result, Ok, Err, add_assoc}
 use Rattle.std.proofs.lemmas.Bool.{cases_Bool, ne_eqb, ltb-false, or_parts, or_from, and_from, not_from_false, le-leb}
 use Rattle.std.proofs.lemmas.List.Elements.{All-from_get_or}
 use Rattle.std.proofs.lemmas.List.Splits.{slice_split_none, slice_split_at}
 use Rattle.std.proofs.lemmas.List.Sums.{fails_before_first, list_all-from_AllPass}
+use Rattle.dired_text.proofs.PlaceLemmas.{none_passes}
 use Rattle.std.specs.List.{slice_split, onto_first, list_all, position_or_len}
 use Rattle.std.specs.Str.{bytes_eq}
-use denote.Ref.{Bor}
 use Rattle.dired_text.specs.Paths.{Names, slash, is_name, is_name_byte, is_dots}
 use Rattle.dired_text.specs.Resolve.{components, with_first, entered, walked, then_from, Walks}
 use Rattle.dired_text.specs.declared.resolving.NameError.{NameError}
@@ -29,26 +29,11 @@ components-none c h = components-split c ∙ slice_split_none (λ b. eqb b slash
 pub components-at : (c rest : List ℕ) → All (λ b. b ≢ slash) c → components (c ++ slash ∷ rest) ≡ c ∷ components rest
 components-at c rest h = rw (components-split (c ++ slash ∷ rest), components-split rest) (slice_split_at (λ b. eqb b slash) c slash rest (no_slash-test c h) refl)
 
--- what std says of `split_once`, by elements
-pub parts_all : (bs : List ℕ) (r : Option (Bor (List ℕ) × Bor (List ℕ))) → MatchOption r ((i : ℕ) → i < length bs → get_or bs i 0 ≢ slash) (λ x. (bs ≡ x.0.now ++ (slash ∷ x.1.now)) × ((i : ℕ) → i < length x.0.now → get_or x.0.now i 0 ≢ slash)) → MatchOption r (All (λ b. b ≢ slash) bs) (λ x. (bs ≡ x.0.now ++ slash ∷ x.1.now) × (All (λ b. b ≢ slash) x.0.now))
-parts_all bs None h = All-from_get_or (λ b. b ≢ slash) bs 0 h
-parts_all bs (Some x) h = (h.0, All-from_get_or (λ b. b ≢ slash) x.0.now 0 h.1)
-
-no_nul-past : (c : List ℕ) → position (λ b. eqb b 0) c ≡ None → length c ≤ position_or_len (λ b. eqb b 0) c
-no_nul-past c e = elim (cases_Bool (nat_lt (position_or_len (λ b. eqb b 0) c) (length c))) [
-  | inl found ↦ let none : Some (position_or_len (λ b. eqb b 0) c) ≡ None = rw found at e in cc
-  | inr passed ↦ ltb-false (position_or_len (λ b. eqb b 0) c) (length c) passed
-]
-
-pub no_nul-test : (c : List ℕ) → position (λ b. eqb b 0) c ≡ None → All (λ b. eqb b 0 ≡ false) c
-no_nul-test c e k d l = let past : length c ≤ position_or_len (λ b. eqb b 0) c = no_nul-past c e in
-    fails_before_first (λ b. eqb b 0) c k d (omega arith)
-
 pub name_bytes : (c : List ℕ) → All (λ b. b ≢ slash) c → position (λ b. eqb b 0) c ≡ None → list_all is_name_byte c ≡ true
 name_bytes c h nul = list_all-from_AllPass is_name_byte c (λ k d l.
     and_from (not (eqb (get_or c k d) slash)) (not (eqb (get_or c k d) 0))
-      (not_from_false (eqb (get_or c k d) slash) (no_slash-test c h k d l))
-      (not_from_false (eqb (get_or c k d) 0) (no_nul-test c nul k d l)))
+    (not_from_false (eqb (get_or c k d) slash) (no_slash-test c h k d l))
+    (not_from_false (eqb (get_or c k d) 0) (none_passes (λ b. eqb b 0) c nul k d l)))
 
 not_empty : (c : List ℕ) → bytes_eq c [] ≡ false → 1 ≤ length c
 not_empty [] e = let absurd_fact : true ≡ false = e in cc
@@ -58,13 +43,10 @@ not_empty (b ∷ c) e = omega arith
 pub is_name-component : (c : List ℕ) → All (λ b. b ≢ slash) c → position (λ b. eqb b 0) c ≡ None → length c ≤ 255 → bytes_eq c [] ≡ false → bytes_eq c (codes ".") ≡ false → bytes_eq c (codes "..") ≡ false → IsTrue (is_name c)
 is_name-component c h nul short full one two =
     and_from (nat_le 1 (length c) && nat_le (length c) 255 && list_all is_name_byte c) (not (is_dots c))
-      (and_from (nat_le 1 (length c) && nat_le (length c) 255) (list_all is_name_byte c)
-        (and_from (nat_le 1 (length c)) (nat_le (length c) 255) (le-leb 1 (length c) (not_empty c full)) (le-leb (length c) 255 short))
-        (name_bytes c h nul))
-      (not_from_false (is_dots c) (or_from (bytes_eq c (codes ".")) (bytes_eq c (codes "..")) one two))
-
-pub length-parts : (rest c later : List ℕ) → rest ≡ c ++ slash ∷ later → length rest ≡ length c + (1 + length later)
-length-parts rest c later e = rw (e, length-append c (slash ∷ later)) (omega arith)
+    (and_from (nat_le 1 (length c) && nat_le (length c) 255) (list_all is_name_byte c)
+    (and_from (nat_le 1 (length c)) (nat_le (length c) 255) (le-leb 1 (length c) (not_empty c full)) (le-leb (length c) 255 short))
+    (name_bytes c h nul))
+    (not_from_false (is_dots c) (or_from (bytes_eq c (codes ".")) (bytes_eq c (codes "..")) one two))
 
 -- one component further
 pub walked-parts : (names : Names) (place : ℕ) (rest c later : List ℕ) → rest ≡ c ++ slash ∷ later → All (λ b. b ≢ slash) c → walked names place (components rest) ≡ then_from (entered names place c) (λ next. walked next (place + length c + 1) (components later))

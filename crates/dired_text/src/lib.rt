@@ -1,6 +1,7 @@
 //! Names, paths and texts, and the traits of what a run reads and writes.
 #![tactic(auto)]
 
+mod escaping;
 mod mem_shelf;
 mod mem_sink;
 mod modes;
@@ -9,10 +10,12 @@ mod path;
 mod resolving;
 mod shelf;
 mod sink;
+mod splitting;
 #[cfg(test)]
 mod tests;
 mod text;
 
+pub use escaping::{EscapeError, escape, escapes_come_back, unescape};
 pub use mem_shelf::MemShelf;
 pub use mem_sink::MemSink;
 pub use modes::{mode_text, read_mode};

@@ -22,11 +22,7 @@ pub struct MemShelf {
 impl MemShelf {
     /// A shelf of these files, names and bytes, of which the first of each name counts. `fail` lists the reads that
     /// fail, the first read being number 0. The name of a failed read is kept in memory of `alloc`.
-    pub fn new(
-        alloc: Global,
-        files: Vec<(Text, Bytes)>,
-        fail: Vec<u64>,
-    ) -> Result<Self, Memory>
+    pub fn new(alloc: Global, files: Vec<(Text, Bytes)>, fail: Vec<u64>) -> Result<Self, Memory>
         ensures files { IfOk result (λ s. shelf_files s ≡ file_of files.items) }
         ensures schedule { IfOk result (λ s. shelf_schedule s ≡ fail.items) }
         ensures reads { IfOk result (λ s. shelf_reads s ≡ 0) }

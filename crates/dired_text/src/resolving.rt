@@ -6,6 +6,7 @@ ghost use Rattle.dired_text.specs.Paths.{is_name, slash};
 ghost use Rattle.dired_text.specs.Resolve.{resolved, walked, entered, above, ended, components, Walks};
 
 use crate::path::copy_names;
+use crate::splitting::split_first;
 use crate::{Name, Path};
 use std::alloc::Global;
 use thiserror::Error;
@@ -60,7 +61,7 @@ fn walk(alloc: Global, names: &mut Vec<Name>, text: &str) -> Result<(), NameErro
 {
     let mut place = 0;
     let mut rest = text;
-    while let Some((component, later)) = split_component(rest) {
+    while let Some((component, later)) = split_first(rest, '/') {
         enter(alloc, names, place, component)?;
         place += component.len() as u64 + 1;
         rest = later;
@@ -68,20 +69,8 @@ fn walk(alloc: Global, names: &mut Vec<Name>, text: &str) -> Result<(), NameErro
     enter(alloc, names, place, rest)
 }
 
-// The text before its first slash and the text behind it, or None where it has no slash.
-fn split_component(text: &str) -> Option<(&str, &str)>
-    ensures { MatchOption result (All (λ b. b ≢ slash) text.now) (λ x. (text.now ≡ x.0.now ++ slash ∷ x.1.now) × (All (λ b. b ≢ slash) x.0.now)) }
-{
-    text.split_once('/')
-}
-
 // From a directory into a component, which begins at this place of the text.
-fn enter(
-    alloc: Global,
-    names: &mut Vec<Name>,
-    place: u64,
-    component: &str,
-) -> Result<(), NameError>
+fn enter(alloc: Global, names: &mut Vec<Name>, place: u64, component: &str) -> Result<(), NameError>
     requires component { All (λ b. b ≢ slash) component.now }
     requires place { place + length component.now < 2 ^ 64 }
     ensures { Walks (entered names.old.items place component.now) result names.new.items }

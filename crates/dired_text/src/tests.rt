@@ -38,7 +38,10 @@ fn the_shelf_reads_and_fails_as_scheduled(rt: HostRuntime) -> Result<(), Fail> {
     ];
     for (name, limit, want) in cases {
         let want = want.map(|text| text.as_bytes());
-        assert!(rt; reads_as(&mut shelf, alloc, name, limit, want), "{name} within {limit}");
+        assert!(rt;
+            reads_as(&mut shelf, alloc, name, limit, want),
+            "{name} within {limit}"
+        );
     }
     Ok(())
 }
@@ -144,6 +147,84 @@ fn long_texts_name_paths(rt: HostRuntime) -> Result<(), Fail> {
             Some(place) => Err(NameError::TooLong(place)),
         };
         assert!(rt; names_as(alloc, &root, &text, want)?, "{lengths:?}");
+    }
+    Ok(())
+}
+
+// Whether a text is written so, and comes back.
+fn is_written(alloc: Global, text: &str, in_link: bool, line: &str) -> Result<bool, Fail> {
+    let written = escape(alloc, text, in_link)?;
+    let back = unescape(alloc, line)?;
+    Ok(written.as_str() == line && back.as_str() == text)
+}
+
+#[test]
+fn one_byte_is_written_and_comes_back(rt: HostRuntime) -> Result<(), Fail> {
+    let alloc = rt.alloc();
+    for byte in 1..128u8 {
+        let text = char::from(byte).to_string(alloc)?;
+        let line = match byte {
+            b'\\' => String::from_str(alloc, "\\\\")?,
+            b'\n' => String::from_str(alloc, "\\n")?,
+            b'\t' => String::from_str(alloc, "\\t")?,
+            1..=31 | 127 => format!(in alloc; "\\{byte:03o}")?,
+            _ => char::from(byte).to_string(alloc)?,
+        };
+        assert!(rt; is_written(alloc, &text, false, &line)?, "{byte}");
+        if byte != b'>' {
+            assert!(rt; is_written(alloc, &text, true, &line)?, "{byte} in a link");
+        }
+    }
+    Ok(())
+}
+
+#[test]
+fn texts_are_written_and_come_back(rt: HostRuntime) -> Result<(), Fail> {
+    let alloc = rt.alloc();
+    let cases = [
+        ("", false, ""),
+        (">", true, "\\076"),
+        ("n\n\\\r", false, "n\\n\\\\\\015"),
+        ("a -> b", true, "a -\\076 b"),
+        ("a -> b", false, "a -> b"),
+        ("é→\u{7f}ü", true, "é→\\177ü"),
+    ];
+    for (text, in_link, line) in cases {
+        assert!(rt; is_written(alloc, text, in_link, line)?, "{text:?}");
+    }
+    let mut text = String::new(alloc);
+    let mut line = String::new(alloc);
+    for _ in 0..1365 {
+        text.push_str("\té")?;
+        line.push_str("\\té")?;
+    }
+    assert!(rt; is_written(alloc, &text, false, &line)?, "4,095 bytes");
+    Ok(())
+}
+
+#[test]
+fn other_escapes_are_refused(rt: HostRuntime) -> Result<(), Fail> {
+    let alloc = rt.alloc();
+    let cases = [
+        ("\\8", 0),
+        ("\\000", 0),
+        ("\\400", 0),
+        ("\\200", 0),
+        ("\\12", 0),
+        ("\\128", 0),
+        ("\\N", 0),
+        ("a\\", 1),
+        ("\\\\\\", 2),
+        ("ab\nc", 2),
+        ("é\t", 2),
+        ("\\n\u{7f}", 2),
+        ("\\177\\q", 4),
+        ("a\u{1}\\8", 1),
+        ("\\8\u{1}", 0),
+    ];
+    for (line, place) in cases {
+        let answer = unescape(alloc, line).err();
+        assert_eq!(rt; answer, Some(EscapeError::BadEscape(place)), "{line:?}");
     }
     Ok(())
 }
