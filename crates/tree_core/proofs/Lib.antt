@@ -2,3 +2,4 @@ pub mod TreeLemmas
 pub mod Sound
 pub mod Torn
 pub mod Moments
+pub mod MemLemmas

@@ -1,12 +1,16 @@
 //! Directory trees: what they are, what each call does to them, and what a crash may leave.
 #![tactic(auto)]
 
+mod apply;
 mod edit;
 mod faults;
+mod mem;
 mod node;
+mod rows;
 mod tree;
 
 pub use edit::{Edit, Shown};
 pub use faults::Faults;
+pub use mem::MemTree;
 pub use node::{CallName, Change, Kind, Node};
 pub use tree::Tree;
