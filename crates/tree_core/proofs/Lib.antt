@@ -3,3 +3,4 @@ pub mod Sound
 pub mod Torn
 pub mod Moments
 pub mod MemLemmas
+pub mod BuiltLemmas

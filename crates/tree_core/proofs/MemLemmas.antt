@@ -18,10 +18,10 @@ use Rattle.tree_core.specs.declared.rows.Row.{Row}
 use Rattle.tree_core.specs.declared.apply.Attempt.{Attempt}
 use Rattle.tree_core.specs.declared.node.Change.{Change}
 use Rattle.tree_core.specs.declared.node.Change.TheVariants.{MakeHard, Rename, SetMode, Sync}
-use Rattle.tree_core.specs.FileTree.{FileTree, IsTree, IsLawful, IsMode, mode_of, CanDo, root_tree, next_after, CanRename, set_mode_of, insert_same, IsAbsent, Stands, renamed, moved_entry, done, with_file_mode, with_nodes}
+use Rattle.tree_core.specs.FileTree.{FileTree, IsTree, IsLawful, IsMode, mode_of, CanDo, next_after, CanRename, set_mode_of, insert_same, IsAbsent, Stands, renamed, moved_entry, done, with_file_mode, with_nodes}
 use Rattle.tree_core.specs.History.{History, Began, Then, IsSound, next_number, current_tree}
 use Rattle.tree_core.specs.Mem.{is_same_path, pairs, tree_of, history_with, history_after, history_of, CouldDo}
-use Rattle.tree_core.proofs.Sound.{sound_then, root_sound}
+use Rattle.tree_core.proofs.Sound.{sound_then}
 use Rattle.tree_core.proofs.TreeLemmas.{Entries, tie, get-made, get-with_nodes, find-map_nodes, same_tree, made-moved, absent_below, absent_not}
 
 pub same_path_decides : (p q : Names) → Decides (is_same_path p q) (p ≡ q)
@@ -246,8 +246,8 @@ pub keeps-began : (rows began : List Row) (first : ℕ) (attempts : List Attempt
 keeps-began rows began first attempts same sound none =
     subst (Keeps rows first began first) (sym none) record { begins = sound; could = tt; reads = λ q. ap (λ l. get (from_entries {R = path_cmp} l) q) (sym same); numbered = refl }
 
-pub root_began : (rows began : List Row) → pairs began ≡ pairs rows → tree_of rows ≡ root_tree → IsSound (Began (tree_of began) 0)
-root_began rows began same root = subst (λ t. IsSound (Began t 0)) (sym (ap from_entries same ∙ root)) root_sound
+pub sound_copy : (rows began : List Row) (first : ℕ) → pairs began ≡ pairs rows → IsSound (Began (tree_of rows) first) → IsSound (Began (tree_of began) first)
+sound_copy rows began first same sound = subst (λ l. IsSound (Began (from_entries l) first)) (sym same) sound
 
 -- what is found has a lawful mode
 pub mode_of_lawful : (node : Node) → IsLawful node → IsMode (mode_of node)

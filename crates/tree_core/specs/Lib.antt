@@ -4,3 +4,4 @@ pub mod Faults
 pub mod Mem
 pub mod Allowed
 pub mod MemHistory
+pub mod Built

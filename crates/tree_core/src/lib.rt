@@ -2,6 +2,7 @@
 #![tactic(auto)]
 
 mod apply;
+mod build;
 mod edit;
 mod faults;
 mod mem;
@@ -9,6 +10,7 @@ mod node;
 mod rows;
 mod tree;
 
+pub use build::{BuildFault, Entry};
 pub use edit::{Edit, Shown};
 pub use faults::Faults;
 pub use mem::MemTree;

@@ -1,5 +1,5 @@
 // A tree in memory.
-ghost use Rattle.std.specs.Prelude.{◌≡◌, ◌⊎◌, ◌≤◌, ◌-◌, ◌^◌, None, List, [], IfOk, IfSome, IfNone, OnOk, OnErr, true, false, not, is_some, length, if◌then◌else◌};
+ghost use Rattle.std.specs.Prelude.{◌≡◌, ◌⊎◌, ◌≤◌, ◌-◌, ◌^◌, None, List, [], IfOk, IfErr, IfSome, IfNone, OnOk, OnErr, true, false, not, is_some, length, if◌then◌else◌};
 ghost use Rattle.std.specs.Option.{unwrap_or};
 ghost use Rattle.std.specs.FinMap.{get};
 ghost use Rattle.dired_text.specs.Paths.{Names};
@@ -8,11 +8,13 @@ ghost use Rattle.tree_core.specs.FileTree.{CanDo, next_after, root_tree};
 ghost use Rattle.tree_core.specs.History.{History, Began, IsSound, Changes, FailedAt, current_tree, next_number as number_told};
 ghost use Rattle.tree_core.specs.Faults.{HasCause, with_fault};
 ghost use Rattle.tree_core.specs.Mem.{tree_of, history_of, CouldDo, scheduled, NeedsMore};
+ghost use Rattle.tree_core.specs.Built.{built, next_of, first_bad, Refuses};
 ghost use Rattle.tree_core.specs.Allowed.{IsSound-prop, CouldDo-prop};
 
 use crate::apply::{Attempt, do_change};
-use crate::rows::{Row, copy_rows, node_of, push_row};
-use crate::{CallName, Change, Faults, Kind, Node, Tree};
+use crate::build::rows_of;
+use crate::rows::{Row, copy_rows, node_of};
+use crate::{BuildFault, CallName, Change, Entry, Faults, Kind, Tree};
 use dired_text::{Failed, Memory, Path};
 use std::alloc::Global;
 
@@ -91,35 +93,33 @@ fn number_after(change: &Change, next: u64, is_done: bool) -> Option<u64>
     }
 }
 
-// The root, of mode 0o755.
-fn root_row(alloc: Global) -> Result<Vec<Row>, Memory>
-    ensures { IfOk result (λ rows. tree_of rows.items ≡ root_tree) }
-{
-    let mut rows = Vec::new(alloc);
-    push_row(alloc, &mut rows, &Path::root(alloc), Node::Dir(0o755), 0)?;
-    Ok(rows)
-}
-
 impl MemTree {
     ghost use Rattle.tree_core.specs.MemHistory.{history_told, before_failed_told, fate_told, look_fails_told};
 
-    /// A tree with its root alone, of mode 0o755.
-    pub fn root_alone(alloc: Global) -> Result<Self, Memory>
-        ensures history { IfOk result (λ m. history_told m ≡ Began root_tree 0) }
+    /// The tree of the entries, whose root has the mode 0o755. Nothing is pending, and no call is to fail.
+    ///
+    /// # Errors
+    /// `BadEntry` with the place, from 0, of the first entry whose path is the root or stands before, whose parent is
+    /// neither the root nor a directory that stands before, whose mode is over 0o7777, whose target isn't 1 to 4,095
+    /// bytes without NUL, or whose number is over 9,223,372,036,854,775,807 or stands before with other bytes or mode.
+    pub fn new(alloc: Global, entries: &[Entry]) -> Result<Self, BuildFault>
+        ensures good { IfOk result (λ m. first_bad [] entries.now ≡ None) }
+        ensures bad { IfErr result (λ fault. Refuses entries.now fault) }
+        ensures history { IfOk result (λ m. history_told m ≡ Began (built root_tree entries.now) (next_of entries.now)) }
         ensures faults { IfOk result (λ m. m.faults ≡ record { count = 0; last = None; last_before = None }) }
         ensures short { IfOk result (λ m. m.short ≡ 0) }
         ensures changes { IfOk result (λ m. m.failing_changes.items ≡ []) }
         ensures looks { IfOk result (λ m. m.failing_looks.items ≡ []) }
     {
-        let rows = root_row(alloc)?;
+        let (rows, first_number) = rows_of(alloc, entries)?;
         let began = copy_rows(alloc, &rows)?;
         Ok(MemTree {
             alloc,
             began,
-            first_number: 0,
+            first_number,
             attempts: Vec::new(alloc),
             rows,
-            next_number: 0,
+            next_number: first_number,
             before_fault: 0,
             failing_changes: Vec::new(alloc),
             changes: 0,
