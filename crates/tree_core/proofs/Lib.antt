@@ -2,3 +2,5 @@ pub mod TreeLemmas
 pub mod Sound
 pub mod Torn
 pub mod Moments
+pub mod MemLemmas
+pub mod BuiltLemmas

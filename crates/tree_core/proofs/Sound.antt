@@ -44,7 +44,7 @@ module _ (t : FileTree) (p : Names) (node : Node) where
   get-inserted_other q other = shows q ∙ cond-false _ _ _ (tie-other q p other)
 
   -- what stands at q is the new node, or was there
-  by_place : (q : Names) (P : Option Node → Type 0) → (q ≡ p → P (Some node)) → (q ≢ p → P (get t q)) → P (get (insert t p node) q)
+  pub by_place : (q : Names) (P : Option Node → Type 0) → (q ≡ p → P (Some node)) → (q ≢ p → P (get t q)) → P (get (insert t p node) q)
   by_place q P here there = ⊎_elim
       (λ same. let is = (path_decides q p).0 same in subst P (sym (shows q ∙ cond-true _ _ _ same)) (here is))
       (λ other. subst P (sym (shows q ∙ cond-false _ _ _ other)) (there (λ is. let yes = (path_decides q p).1 is in let both : true ≡ false = sym yes ∙ other in cc)))
@@ -206,39 +206,32 @@ tree_then (Remove p) s sound can = removed_tree _ p sound.tree (not_root_of _ so
 tree_then (RemoveDir p) s sound can = removed_tree _ p sound.tree can.1 can.2
 tree_then Sync s sound can = sound.tree
 
-Above : ℕ → FileTree → Type 0
+abbrev pub Above : ℕ → FileTree → Type 0
 Above next t = (p : Names) (number : ℕ) (bytes : List ℕ) (mode : ℕ) → get t p ≡ Some (File number bytes mode) → number < next
 
-above_insert : (t : FileTree) (p : Names) (node : Node) (next : ℕ) → Above next t → ((n : ℕ) (b : List ℕ) (m : ℕ) → node ≡ File n b m → n < next) → Above next (insert t p node)
-unfolding Above
+pub above_insert : (t : FileTree) (p : Names) (node : Node) (next : ℕ) → Above next t → ((n : ℕ) (b : List ℕ) (m : ℕ) → node ≡ File n b m → n < next) → Above next (insert t p node)
 above_insert t p node next above new q n b m = by_place t p node q (λ o. o ≡ Some (File n b m) → n < next) (λ _ e. new n b m (same_Some _ _ e)) (λ _ e. above q n b m e)
 
 above_remove : (t : FileTree) (p : Names) (next : ℕ) → Above next t → Above next (remove t p)
-unfolding Above
 above_remove t p next above q n b m e = above q n b m (was_there t p q _ e)
 
 above_mode : (o : Option Node) (t : FileTree) (p : Names) (mode next : ℕ) → Above next t → Above next (set_mode_of o t p mode)
-unfolding Above
 above_mode None t p mode next above = above
 above_mode (Some (Dir m)) t p mode next above = above_insert t p (Dir mode) next above (λ n b k is. cc)
 above_mode (Some (Link target)) t p mode next above = above
 above_mode (Some (File number bytes m)) t p mode next above = λ q n b k e. above q n b _ (before t number mode (get t q) n b k (sym (shows_changed t number mode q) ∙ e)).was
 
 above_hard : (o : Option Node) (t : FileTree) (p old : Names) (next : ℕ) → get t old ≡ o → Above next t → Above next (insert_same o t p)
-unfolding Above
 above_hard None t p old next e above = above
 above_hard (Some node) t p old next e above = above_insert t p node next above (λ n b m is. above old n b m (e ∙ ap (λ (x : Node). Some x) is))
 
 above_write : (s : History) (p : Names) (bytes : List ℕ) (mode : ℕ) → Above (next_number s) (current_tree s) → Above (next_number s + 1) (insert (current_tree s) p (File (next_number s) bytes mode))
-unfolding Above
 above_write s p bytes mode above = above_insert _ p _ _ (λ q n b m e. let low = above q n b m e in omega arith) (λ n b m is. let same : next_number s ≡ n = cc in omega arith)
 
 above_rename : (t : FileTree) (from to : Names) (next : ℕ) → IsTree t → CanDo (Rename from to) t → Above next t → Above next (done (Rename from to) next t)
-unfolding Above
 above_rename t from to next tree can above q n b m e = let came = came_from t from to tree can q (File n b m) e in above came.path n b m came.was
 
 above_then : (change : Change) (s : History) → IsSound s → CanDo change (current_tree s) → Above (next_number (Then s change)) (current_tree (Then s change))
-unfolding Above
 above_then (MakeDir p mode) s sound can = above_insert _ p (Dir mode) _ sound.above (λ n b m is. cc)
 above_then (MakeLink p target) s sound can = above_insert _ p (Link target) _ sound.above (λ n b m is. cc)
 above_then (MakeHard p old) s sound can = above_hard (get (current_tree s) old) _ p old _ refl sound.above
@@ -251,7 +244,6 @@ above_then Sync s sound can = sound.above
 
 -- A lawful change of a sound tree leaves a sound tree.
 pub sound_then : (change : Change) (s : History) → IsSound s → CanDo change (current_tree s) → IsSound (Then s change)
-unfolding Above
 sound_then change s sound can = record { tree = tree_then change s sound can; above = above_then change s sound can }
 
 -- ---- the root alone

@@ -1,12 +1,18 @@
 //! Directory trees: what they are, what each call does to them, and what a crash may leave.
 #![tactic(auto)]
 
+mod apply;
+mod build;
 mod edit;
 mod faults;
+mod mem;
 mod node;
+mod rows;
 mod tree;
 
+pub use build::{BuildFault, Entry};
 pub use edit::{Edit, Shown};
 pub use faults::Faults;
+pub use mem::MemTree;
 pub use node::{CallName, Change, Kind, Node};
 pub use tree::Tree;

@@ -1,0 +1,6 @@
+use Rattle.std.proofs.Common.{◌≡◌, take}
+use Rattle.tree_core.specs.Mem.{pairs}
+use Rattle.tree_core.proofs.rows.copy_rows.Given as goal
+
+abbrev pub invariant-loop-row : goal.invariant-loop-row
+invariant-loop-row l = pairs l.all.items ≡ pairs (take l.row-index l.rows)

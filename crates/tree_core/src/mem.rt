@@ -1,0 +1,302 @@
+// A tree in memory.
+ghost use Rattle.std.specs.Prelude.{◌≡◌, ◌⊎◌, ◌≤◌, ◌-◌, ◌^◌, None, List, [], IfOk, IfErr, IfSome, IfNone, OnOk, OnErr, true, false, not, is_some, length, if◌then◌else◌};
+ghost use Rattle.std.specs.Option.{unwrap_or};
+ghost use Rattle.std.specs.FinMap.{get};
+ghost use Rattle.dired_text.specs.Paths.{Names};
+ghost use Rattle.dired_text.specs.Counts.{raised, Rose};
+ghost use Rattle.tree_core.specs.FileTree.{CanDo, next_after, root_tree};
+ghost use Rattle.tree_core.specs.History.{History, Began, IsSound, Changes, FailedAt, current_tree, next_number as number_told};
+ghost use Rattle.tree_core.specs.Faults.{HasCause, with_fault};
+ghost use Rattle.tree_core.specs.Mem.{tree_of, history_of, CouldDo, scheduled, NeedsMore};
+ghost use Rattle.tree_core.specs.Built.{built, next_of, first_bad, Refuses};
+ghost use Rattle.tree_core.specs.Allowed.{IsSound-prop, CouldDo-prop};
+
+use crate::apply::{Attempt, do_change};
+use crate::build::rows_of;
+use crate::rows::{Row, copy_rows, node_of};
+use crate::{BuildFault, CallName, Change, Entry, Faults, Kind, Tree};
+use dired_text::{Failed, Memory, Path};
+use std::alloc::Global;
+
+/// A tree in memory. It keeps the tree that it began with and a record of the changing calls since, and its calls fail
+/// as it was told.
+#[derive(Drop)]
+pub struct MemTree {
+    alloc: Global,
+    began: Vec<Row>,
+    first_number: u64,
+    attempts: Vec<Attempt>,
+    // the tree that reads
+    rows: Vec<Row>,
+    next_number: u64,
+    // how many of the attempts came before the last failed call
+    before_fault: usize,
+    failing_changes: Vec<(u64, bool)>,
+    changes: u64,
+    failing_looks: Vec<u64>,
+    looks: u64,
+    faults: Faults,
+    short: u64,
+    ghost begins: { IsSound (Began (tree_of began.items) first_number) } by { IsSound-prop (Began (tree_of began.items) first_number) },
+    ghost could: { CouldDo (Began (tree_of began.items) first_number) attempts.items } by { CouldDo-prop (Began (tree_of began.items) first_number) attempts.items },
+    ghost sound: { IsSound (history_of began.items first_number attempts.items) } by { IsSound-prop (history_of began.items first_number attempts.items) },
+    ghost reads: { (q : Names) → get (tree_of rows.items) q ≡ get (current_tree (history_of began.items first_number attempts.items)) q },
+    ghost numbered: { next_number ≡ number_told (history_of began.items first_number attempts.items) },
+    ghost counted: { before_fault ≤ length attempts.items },
+}
+
+/// What becomes of a changing call.
+#[derive(Clone, Copy, Debug, PartialEq, Eq)]
+struct Fate {
+    is_done: bool,
+    is_ok: bool,
+    ghost ok_is_done: { is_ok ≡ true → is_done ≡ true },
+}
+
+// What the schedule says of a changing call.
+fn entry_of(failing: &[(u64, bool)], call: u64) -> Option<bool>
+    ensures { result ≡ scheduled failing.now call }
+{
+    failing
+        .iter()
+        .find(|entry| entry.0 == call)
+        .map(|entry| entry.1)
+}
+
+fn fate_of(failing: &[(u64, bool)], call: u64) -> Fate
+    ensures ok { result.is_ok ≡ not (is_some (scheduled failing.now call)) }
+    ensures done { result.is_done ≡ unwrap_or (scheduled failing.now call) true }
+{
+    match entry_of(failing, call) {
+        None => Fate {
+            is_done: true,
+            is_ok: true,
+        },
+        Some(is_done) => Fate {
+            is_done,
+            is_ok: false,
+        },
+    }
+}
+
+// The next file number behind the call, or None where there is none.
+fn number_after(change: &Change, next: u64, is_done: bool) -> Option<u64>
+    ensures some { IfSome result (λ n. n ≡ (if is_done then next_after change.now next else next)) }
+    ensures none { IfNone result (NeedsMore change.now next) }
+{
+    if !is_done {
+        return Some(next);
+    }
+    match change {
+        Change::WriteFile(..) => next.checked_add(1),
+        _ => Some(next),
+    }
+}
+
+impl MemTree {
+    ghost use Rattle.tree_core.specs.MemHistory.{history_told, before_failed_told, fate_told, look_fails_told};
+
+    /// The tree of the entries, whose root has the mode 0o755. Nothing is pending, and no call is to fail.
+    ///
+    /// # Errors
+    /// `BadEntry` with the place, from 0, of the first entry whose path is the root or stands before, whose parent is
+    /// neither the root nor a directory that stands before, whose mode is over 0o7777, whose target isn't 1 to 4,095
+    /// bytes without NUL, or whose number is over 9,223,372,036,854,775,807 or stands before with other bytes or mode.
+    pub fn new(alloc: Global, entries: &[Entry]) -> Result<Self, BuildFault>
+        ensures good { IfOk result (λ m. first_bad [] entries.now ≡ None) }
+        ensures bad { IfErr result (λ fault. Refuses entries.now fault) }
+        ensures history { IfOk result (λ m. history_told m ≡ Began (built root_tree entries.now) (next_of entries.now)) }
+        ensures faults { IfOk result (λ m. m.faults ≡ record { count = 0; last = None; last_before = None }) }
+        ensures short { IfOk result (λ m. m.short ≡ 0) }
+        ensures changes { IfOk result (λ m. m.failing_changes.items ≡ []) }
+        ensures looks { IfOk result (λ m. m.failing_looks.items ≡ []) }
+    {
+        let (rows, first_number) = rows_of(alloc, entries)?;
+        let began = copy_rows(alloc, &rows)?;
+        Ok(MemTree {
+            alloc,
+            began,
+            first_number,
+            attempts: Vec::new(alloc),
+            rows,
+            next_number: first_number,
+            before_fault: 0,
+            failing_changes: Vec::new(alloc),
+            changes: 0,
+            failing_looks: Vec::new(alloc),
+            looks: 0,
+            faults: Faults::new(),
+            short: 0,
+        })
+    }
+
+    /// Takes a list of the changing calls that fail, counted from the next one as 0, and whether each is done all the
+    /// same. Of two entries for one call the first counts. It replaces the list given before.
+    ///
+    /// # Errors
+    /// Where memory is refused nothing has changed.
+    pub fn fail_changes(&mut self, calls: &[(u64, bool)]) -> Result<(), Memory>
+        ensures schedule { OnOk result (self.new.failing_changes.items ≡ calls.now) }
+        ensures count { OnOk result (self.new.changes ≡ 0) }
+        ensures err { OnErr result (self.new ≡ self.old) }
+        ensures looks { (self.new.failing_looks ≡ self.old.failing_looks) × (self.new.looks ≡ self.old.looks) }
+        ensures history { history_told self.new ≡ history_told self.old }
+        ensures before_failed { before_failed_told self.new ≡ before_failed_told self.old }
+        ensures faults { self.new.faults ≡ self.old.faults }
+        ensures short { self.new.short ≡ self.old.short }
+    {
+        self.failing_changes = Vec::from_slice(self.alloc, calls)?;
+        self.changes = 0;
+        Ok(())
+    }
+
+    /// Takes a list of the looks that fail, counted from the next one as 0. It replaces the list given before.
+    ///
+    /// # Errors
+    /// Where memory is refused nothing has changed.
+    pub fn fail_looks(&mut self, calls: &[u64]) -> Result<(), Memory>
+        ensures schedule { OnOk result (self.new.failing_looks.items ≡ calls.now) }
+        ensures count { OnOk result (self.new.looks ≡ 0) }
+        ensures err { OnErr result (self.new ≡ self.old) }
+        ensures changes { (self.new.failing_changes ≡ self.old.failing_changes) × (self.new.changes ≡ self.old.changes) }
+        ensures history { history_told self.new ≡ history_told self.old }
+        ensures before_failed { before_failed_told self.new ≡ before_failed_told self.old }
+        ensures faults { self.new.faults ≡ self.old.faults }
+        ensures short { self.new.short ≡ self.old.short }
+    {
+        self.failing_looks = Vec::from_slice(self.alloc, calls)?;
+        self.looks = 0;
+        Ok(())
+    }
+
+    /// How many calls have failed because memory was refused. The count stays at its last value.
+    pub fn short(&self) -> u64
+        ensures { result ≡ self.now.short }
+    {
+        self.short
+    }
+
+    // Fails before anything is done.
+    fn give_up(&mut self, call: CallName) -> Failed
+        ensures history { history_told self.new ≡ history_told self.old }
+        ensures before_failed { before_failed_told self.new ≡ current_tree (history_told self.old) }
+        ensures cause { self.new.faults ≡ with_fault call self.old.faults }
+        ensures short { self.new.short ≡ self.old.short }
+    {
+        self.before_fault = self.attempts.len();
+        self.faults.note(call);
+        Failed
+    }
+
+    // Fails for want of memory.
+    fn run_short(&mut self, call: CallName) -> Failed
+        ensures history { history_told self.new ≡ history_told self.old }
+        ensures before_failed { before_failed_told self.new ≡ current_tree (history_told self.old) }
+        ensures cause { self.new.faults ≡ with_fault call self.old.faults }
+        ensures short { self.new.short ≡ raised self.old.short }
+    {
+        self.short = self.short.saturating_add(1);
+        self.give_up(call)
+    }
+
+    // Whether the next look fails. It counts as made.
+    fn look_fails(&mut self) -> bool
+        ensures scheduled { result ≡ look_fails_told self.old }
+        ensures counted { self.new ≡ record self.old { looks = raised self.old.looks } }
+    {
+        let call = self.looks;
+        self.looks = self.looks.saturating_add(1);
+        self.failing_looks.iter().any(|listed| *listed == call)
+    }
+
+    // What becomes of the next changing call. It counts as made.
+    fn next_fate(&mut self) -> Fate
+        ensures ok { result.is_ok ≡ not (is_some (fate_told self.old)) }
+        ensures done { result.is_done ≡ unwrap_or (fate_told self.old) true }
+        ensures counted { self.new ≡ record self.old { changes = raised self.old.changes } }
+    {
+        let call = self.changes;
+        self.changes = self.changes.saturating_add(1);
+        fate_of(&self.failing_changes, call)
+    }
+
+    // Does a changing call, or fails, as its fate says.
+    fn change(&mut self, change: Change, call: CallName, fate: Fate) -> Result<(), Failed>
+        requires { CanDo change (current_tree (history_told self.old)) }
+        ensures history { Changes change (history_told self.old) (history_told self.new) result }
+        ensures before_failed { FailedAt result (history_told self.old) (before_failed_told self.old) (before_failed_told self.new) }
+        ensures cause { HasCause call self.old.faults self.new.faults result }
+        ensures may_fail { OnErr result ((fate.is_ok ≡ false) ⊎ (Rose self.old.short self.new.short ⊎ NeedsMore change (number_told (history_told self.old)))) }
+    {
+        let before = self.attempts.len();
+        let Some(later) = number_after(&change, self.next_number, fate.is_done) else {
+            return Err(self.give_up(call));
+        };
+        match do_change(
+            self.alloc,
+            &mut self.rows,
+            &mut self.attempts,
+            change,
+            self.next_number,
+            fate.is_done,
+            fate.is_ok,
+        ) {
+            Ok(()) => {
+                self.next_number = later;
+                if fate.is_ok {
+                    return Ok(());
+                }
+                self.before_fault = before;
+                self.faults.note(call);
+                Err(Failed)
+            }
+            Err(_) => Err(self.run_short(call)),
+        }
+    }
+}
+
+impl Tree for MemTree {
+    ghost use Rattle.tree_core.specs.MemHistory.{history_told, before_failed_told, MayFailAs};
+
+    ghost Tells = { Unit {0} };
+
+    ghost history = { history_told };
+
+    ghost before_failed = { before_failed_told };
+
+    ghost faults = { λ m. m.faults };
+
+    ghost MayFail = { MayFailAs };
+
+    ghost is_sound = { λ m tells. m.sound };
+
+    fn kind(&mut self, path: &Path) -> Result<Option<Kind>, Failed> {
+        if self.look_fails() {
+            return Err(self.give_up(CallName::Kind));
+        }
+        Ok(node_of(&self.rows, path.names()).map(|node| node.kind()))
+    }
+
+    fn mode(&mut self, path: &Path) -> Result<u16, Failed> {
+        if self.look_fails() {
+            return Err(self.give_up(CallName::Mode));
+        }
+        match node_of(&self.rows, path.names()) {
+            Some(node) => Ok(node.mode()),
+            None => Ok(0),
+        }
+    }
+
+    fn rename(&mut self, from: &Path, to: &Path) -> Result<(), Failed> {
+        let fate = self.next_fate();
+        match (from.copy(), to.copy()) {
+            (Ok(from), Ok(to)) => self.change(Change::Rename(from, to), CallName::Rename, fate),
+            _ => Err(self.run_short(CallName::Rename)),
+        }
+    }
+
+    fn sync(&mut self) -> Result<(), Failed> {
+        let fate = self.next_fate();
+        self.change(Change::Sync, CallName::Sync, fate)
+    }
+}
