@@ -1,3 +1,4 @@
 mod NameLemmas
 mod OneLemmas
 mod ReportLemmas
+mod RunLemmas

@@ -7,7 +7,7 @@ use Rattle.tree_core.specs.History.{History, current_tree, IsDurable}
 use Rattle.tree_core.specs.Faults.{with_fault}
 use Rattle.dired_cli.specs.declared.commit.NameChange.{NameChange}
 use Rattle.dired_cli.specs.declared.status.Status.{Status}
-use Rattle.dired_cli.specs.declared.status.Status.TheVariants.{Done, Usage, ReadFault, TreeFault, WriteFault}
+use Rattle.dired_cli.specs.declared.status.Status.TheVariants.{Done, Usage, Memory, ReadFault, TreeFault, WriteFault}
 use Rattle.dired_cli.specs.Inputs.{Files}
 use Rattle.dired_cli.specs.Words.{buffers_of}
 use Rattle.dired_cli.specs.Requests.{request_of}
@@ -43,20 +43,22 @@ pub record Outside : Type 0 where
 abbrev pub SameFaults : Outside → Outside → Type 0
 SameFaults before now = (now.tree_faults ≡ before.tree_faults) × (now.read_faults ≡ before.read_faults)
 
--- How a run comes to decide a status, before its last line is written. Want of memory leaves the old tree. Behind a failed
+-- How a run comes to decide a status, before its last line is written. Want of memory leaves the old tree, with no call of
+-- the tree failed; it may stand in place of a failed read, whose text has to be made. Behind a failed
 -- call of the tree or a failed read nothing more is done. Every other status is that of the verdict, with exactly the
 -- edited tree, which for a refusal is the old one, and nothing pending.
 abbrev pub Decides : Verdict → Outside → Outside → Status → Type 0
 Decides verdict before now decided = ByCause decided
-    ((now.history ≡ before.history) × SameFaults before now)
+    ((now.history ≡ before.history) × (now.tree_faults ≡ before.tree_faults))
     (λ first. FaultLeaves first (current_tree before.history) (edited verdict (current_tree before.history)) now.found (current_tree now.history)
         × (now.tree_faults ≡ with_fault first before.tree_faults) × (now.read_faults ≡ before.read_faults))
     (λ failed. (now.history ≡ before.history) × (now.tree_faults ≡ before.tree_faults) × (now.read_faults ≡ raised before.read_faults) × (now.last_read ≡ Some failed))
     ((decided ≡ status_of verdict) × (current_tree now.history ≡ edited verdict (current_tree before.history)) × IsDurable now.history × SameFaults before now)
 
--- whether a failed call of the outside decided the status
-abbrev pub is_fault : Status → Bool
-is_fault (ReadFault name) = true
-is_fault (TreeFault first) = true
-is_fault (WriteFault held) = true
-is_fault status = false
+-- whether a status can come in a run in which a call of the outside failed
+abbrev pub may_follow_fault : Status → Bool
+may_follow_fault Memory = true
+may_follow_fault (ReadFault name) = true
+may_follow_fault (TreeFault first) = true
+may_follow_fault (WriteFault held) = true
+may_follow_fault status = false

@@ -1,5 +1,6 @@
 -- The numbers of the statuses, and their texts.
 use Rattle.std.specs.Prelude.{ℕ, Bool, true, false, List, [], ◌++◌, codes, decimal}
+use Rattle.dired_text.specs.Escape.{escaped}
 use Rattle.tree_core.specs.declared.node.CallName.{CallName}
 use Rattle.tree_core.specs.declared.node.CallName.TheVariants.{Kind, Mode, IsEmpty, Meta, Names, Read, MakeDir, MakeLink, MakeHard, WriteFile, Rename, SetMode, Remove, RemoveDir, Sync}
 use Rattle.dired_cli.specs.declared.status.Counted.{Counted}
@@ -39,15 +40,15 @@ call_text Sync = codes "sync"
 abbrev pub counted_text : Counted → List ℕ
 counted_text BufferBytes = codes "BufferBytes"
 
--- the text of a status, empty for one that has none
+-- the text of a status, with names escaped; empty for one that has none
 abbrev pub text_of : Status → List ℕ
 text_of Done = []
 text_of Usage = codes "dired: usage: list, commit, run, recover or drill\n"
 text_of Memory = codes "dired: out of memory\n"
-text_of (ReadFault name) = codes "dired: cannot read " ++ name ++ codes "\n"
+text_of (ReadFault name) = codes "dired: cannot read " ++ escaped false name ++ codes "\n"
 text_of (TreeFault first) = codes "dired: " ++ call_text first ++ codes " failed; nothing was decided\n"
 text_of (WriteFault held) = []
-text_of (Missing name) = codes "dired: no such input: " ++ name ++ codes "\n"
+text_of (Missing name) = codes "dired: no such input: " ++ escaped false name ++ codes "\n"
 text_of (Stale line) = codes "dired: line " ++ decimal line ++ codes ": the file is not as shown\n"
 text_of (TooLarge what number) = codes "dired: too large: " ++ counted_text what ++ codes " " ++ decimal number ++ codes "\n"
 text_of (NotBuilt line) = codes "dired: line " ++ decimal line ++ codes ": not built yet\n"

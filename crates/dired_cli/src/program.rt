@@ -9,7 +9,7 @@ ghost use Rattle.dired_cli.specs.Verdicts.{IsOldOrEdited, FaultLeaves, edited, R
 ghost use Rattle.tree_core.specs.declared.node.CallName.{CallName as Call};
 ghost use Rattle.dired_cli.specs.declared.status.Status.TheVariants.{TreeFault, ReadFault, WriteFault};
 ghost use Rattle.dired_cli.specs.Reports.{Said};
-ghost use Rattle.dired_cli.specs.Runs.{verdict, Decides, line_of, is_fault};
+ghost use Rattle.dired_cli.specs.Runs.{verdict, Decides, line_of, may_follow_fault};
 
 use crate::Status;
 use crate::commit::carry_out;
@@ -52,7 +52,7 @@ pub fn run<T: Tree, H: Shelf, W: Sink>(
     ensures tree_fault { (first : Call) → result ≡ TreeFault first → T.faults tree.new ≡ with_fault first (T.faults tree.old) }
     ensures read_fault { (failed : List ℕ) → result ≡ ReadFault failed → (H.faults shelf.new ≡ raised (H.faults shelf.old)) × (H.Tells → H.last_failed shelf.new ≡ Some failed) }
     ensures write_fault { (held : ℕ) → result ≡ WriteFault held → W.faults sink.new ≡ raised (W.faults sink.old) }
-    ensures no_fault { is_fault result ≡ false → (T.faults tree.new ≡ T.faults tree.old) × (H.faults shelf.new ≡ H.faults shelf.old) × (W.faults sink.new ≡ W.faults sink.old) }
+    ensures no_fault { may_follow_fault result ≡ false → (T.faults tree.new ≡ T.faults tree.old) × (H.faults shelf.new ≡ H.faults shelf.old) × (W.faults sink.new ≡ W.faults sink.old) }
 {
     let ended = decide(alloc, words, tree, shelf);
     report(alloc, ended, sink)
@@ -79,6 +79,7 @@ fn decide<T: Tree, H: Shelf>(
         (λ status. ByCause status (T.faults tree.new ≡ T.faults tree.old) (λ first. T.faults tree.new ≡ with_fault first (T.faults tree.old)) (λ _. T.faults tree.new ≡ T.faults tree.old) (T.faults tree.new ≡ T.faults tree.old)) }
     ensures shelf_count { MatchResult result (λ _. H.faults shelf.new ≡ H.faults shelf.old)
         (λ status. ByCause status (H.faults shelf.new ≡ H.faults shelf.old) (λ _. H.faults shelf.new ≡ H.faults shelf.old) (λ failed. H.faults shelf.new ≡ raised (H.faults shelf.old)) (H.faults shelf.new ≡ H.faults shelf.old)) }
+    ensures last_read { H.Tells → IfErr result (λ status. ByCause status (Unit {0}) (λ _. Unit {0}) (λ failed. H.last_failed shelf.new ≡ Some failed) (Unit {0})) }
     ensures end { IfErr result IsRefusal }
 {
     let Some((before, after)) = commit_words(words) else {

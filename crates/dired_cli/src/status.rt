@@ -3,7 +3,7 @@ ghost use Rattle.std.specs.Prelude.{◌≡◌, IfOk};
 ghost use Rattle.std.specs.String.{string_bytes};
 ghost use Rattle.dired_cli.specs.Statuses.{call_text as call_text_of};
 
-use dired_text::{Memory, Text};
+use dired_text::{Memory, Text, escape};
 use std::alloc::Global;
 use tree_core::CallName;
 
@@ -85,12 +85,14 @@ impl Status {
             Status::Usage => Ok(String::from_str(alloc, USAGE)?),
             Status::Memory => Ok(String::from_str(alloc, OUT_OF_MEMORY)?),
             Status::ReadFault { name } => {
+                let name = escape(alloc, name.as_str(), false)?;
                 Ok(format!(in alloc; "dired: cannot read {}\n", name.as_str())?)
             }
             Status::TreeFault { first } => Ok(
                 format!(in alloc; "dired: {} failed; nothing was decided\n", call_text(*first))?,
             ),
             Status::Missing { name } => {
+                let name = escape(alloc, name.as_str(), false)?;
                 Ok(format!(in alloc; "dired: no such input: {}\n", name.as_str())?)
             }
             Status::Stale { line } => {

@@ -1,0 +1,14 @@
+use Rattle.dired_cli.proofs.RunLemmas.{outcome_of, ended_by_read, read_counted, read_named}
+use Rattle.dired_cli.proofs.program.run.Goals as goal
+
+pub returns-clause-outcome : goal.returns-clause-outcome
+returns-clause-outcome g c tells also =
+    outcome_of _
+    (record { history = g.T.Tree.history c.args.tree.now; tree_faults = g.T.Tree.faults c.args.tree.now; found = g.T.Tree.before_failed c.args.tree.now; read_faults = g.H.Shelf.faults c.args.shelf.now; last_read = g.H.Shelf.last_failed c.args.shelf.now })
+    _ _ _ _ _ _ _ _ (c.requires.durable tells)
+    (c.decide-ended.ensures.done tells also) (c.decide-ended.ensures.refused tells also) c.decide-ended.ensures.tree_count c.decide-ended.ensures.shelf_count c.decide-ended.ensures.end c.report.ensures
+
+pub returns-clause-read_fault : goal.returns-clause-read_fault
+returns-clause-read_fault g c failed is =
+    let ended = ended_by_read _ _ _ _ _ _ _ failed c.report.ensures is in
+    (read_counted _ failed _ _ ended c.decide-ended.ensures.shelf_count, λ tells. read_named _ failed _ ended (c.decide-ended.ensures.last_read tells))
