@@ -1,5 +1,5 @@
 -- What the words on escapes compute to.
-use Rattle.std.proofs.Common.{◌≡◌, ◌≢◌, ◌⊎◌, inl, inr, ℕ, ◌+◌, ◌<◌, ◌≤◌, Bool, true, false, cond, ◌&&◌, ◌||◌, List, [], ◌∷◌, ◌++◌, length, get_or, refl, sym, ◌∙◌, ap, arith, All, flat_map, encode_utf8, encode_utf8_all, eqb}
+use Rattle.std.proofs.Common.{◌≡◌, ◌≢◌, inl, inr, ℕ, ◌≤◌, Bool, false, ◌&&◌, List, [], ◌∷◌, ◌++◌, get_or, refl, sym, ap, arith, All, flat_map, encode_utf8, encode_utf8_all, eqb}
 use Rattle.std.proofs.lemmas.Bool.{cases_lt, ne_eqb, le-ltb, and_right}
 use Rattle.std.proofs.lemmas.List.{append-nil}
 use Rattle.std.proofs.lemmas.List.Concat.{flat_map-append}

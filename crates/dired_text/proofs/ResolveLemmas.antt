@@ -1,11 +1,10 @@
 -- How a text splits into components, and which components are names.
-use Rattle.std.proofs.Common.{◌≡◌, ◌≢◌, ◌⊎◌, inl, inr, ℕ, ◌+◌, ◌<◌, ◌≤◌, Bool, true, false, cond, ◌&&◌, ◌||◌, not, nat_lt, nat_le, List, [], ◌∷◌, ◌++◌, length, get_or, refl, sym, ◌∙◌, ap, arith, All, Option, Some, None, MatchOption, position, IsTrue, codes, eqb, Result, Ok, Err, add_assoc}
-use Rattle.std.proofs.lemmas.Bool.{cases_Bool, ne_eqb, ltb-false, or_parts, or_from, and_from, not_from_false, le-leb}
-use Rattle.std.proofs.lemmas.List.Elements.{All-from_get_or}
+use Rattle.std.proofs.Common.{◌≡◌, ◌≢◌, inl, inr, ℕ, ◌+◌, ◌≤◌, true, false, cond, ◌&&◌, not, nat_le, List, [], ◌∷◌, ◌++◌, length, get_or, refl, ◌∙◌, ap, arith, All, None, position, IsTrue, codes, eqb, Result, Ok, Err, add_assoc}
+use Rattle.std.proofs.lemmas.Bool.{ne_eqb, or_from, and_from, not_from_false, le-leb}
 use Rattle.std.proofs.lemmas.List.Splits.{slice_split_none, slice_split_at}
-use Rattle.std.proofs.lemmas.List.Sums.{fails_before_first, list_all-from_AllPass}
+use Rattle.std.proofs.lemmas.List.Sums.{list_all-from_AllPass}
 use Rattle.dired_text.proofs.PlaceLemmas.{none_passes}
-use Rattle.std.specs.List.{slice_split, onto_first, list_all, position_or_len}
+use Rattle.std.specs.List.{slice_split, onto_first, list_all}
 use Rattle.std.specs.Str.{bytes_eq}
 use Rattle.dired_text.specs.Paths.{Names, slash, is_name, is_name_byte, is_dots}
 use Rattle.dired_text.specs.Resolve.{components, with_first, entered, walked, then_from, Walks}

@@ -1,9 +1,9 @@
 -- An escaped text stands for the text that was escaped.
-use Rattle.std.proofs.Common.{◌≡◌, ◌≢◌, ◌⊎◌, inl, inr, ℕ, zero, suc, ◌+◌, ◌/◌, ◌%◌, ◌<◌, ◌≤◌, Bool, true, false, if◌then◌else◌, ◌&&◌, ◌||◌, List, [], ◌∷◌, ◌++◌, length, refl, sym, ◌∙◌, ap, subst, arith, All, Option, Some, None, Ok, eqb, nat_lt}
+use Rattle.std.proofs.Common.{◌≡◌, ◌≢◌, inl, inr, ℕ, ◌+◌, ◌/◌, ◌%◌, ◌<◌, Bool, true, false, if◌then◌else◌, ◌&&◌, ◌||◌, List, [], ◌∷◌, ◌++◌, refl, sym, ◌∙◌, ap, subst, arith, All, Option, Some, None, Ok, eqb, nat_lt}
 use Rattle.std.proofs.lemmas.Bool.{cases_Bool, cases_eq, ne_eqb, or_cases, or_parts, and_parts, ltb-true, eqb-true, agree_below_at}
 use Rattle.std.proofs.lemmas.List.Elements.{All-head, All-tail}
 use Rattle.dired_text.proofs.UnescapeLemmas.{octal-read, plain-byte}
-use Rattle.dired_text.specs.Escape.{backslash, greater, is_control, octal, octal_byte, spelled, escaped, in_front, then_read, unescaped_from, unescaped}
+use Rattle.dired_text.specs.Escape.{backslash, greater, is_control, octal, octal_byte, spelled, escaped, in_front, unescaped_from}
 
 -- a test that three octal digits give a byte back
 is_number : Option ℕ → ℕ → Bool

@@ -1,5 +1,5 @@
 -- What an escaped text stands for, piece by piece.
-use Rattle.std.proofs.Common.{◌≡◌, ◌≢◌, ◌⊎◌, inl, inr, ℕ, zero, suc, ◌+◌, ◌-◌, ◌*◌, ◌<◌, ◌≤◌, Bool, true, false, ◌&&◌, List, [], ◌∷◌, ◌++◌, length, get_or, drop, refl, sym, ◌∙◌, ap, subst, arith, All, Option, Some, None, position, Result, Ok, Err, eqb, nat_le, append_assoc, length-append, length-drop}
+use Rattle.std.proofs.Common.{◌≡◌, ◌≢◌, ◌⊎◌, inl, inr, ℕ, zero, suc, ◌+◌, ◌-◌, ◌*◌, ◌<◌, ◌≤◌, true, false, ◌&&◌, List, [], ◌∷◌, ◌++◌, length, get_or, drop, refl, sym, ◌∙◌, ap, subst, arith, All, Some, None, position, Result, Ok, Err, nat_le, append_assoc, length-drop}
 use Rattle.std.proofs.lemmas.Bool.{cases_Bool, ne_eqb, and_parts, leb-true}
 use Rattle.std.proofs.lemmas.List.{append-nil}
 use Rattle.std.proofs.lemmas.List.Elements.{All-head, All-tail}
@@ -8,7 +8,7 @@ use Rattle.std.proofs.lemmas.Str.{IsCharBoundary-after_ascii}
 use Rattle.std.specs.Str.{IsUtf8, IsCharBoundary}
 use Rattle.dired_text.proofs.PlaceLemmas.{none_passes}
 use Rattle.dired_text.specs.Answers.{IsOrMemory}
-use Rattle.dired_text.specs.Escape.{backslash, is_control, is_octal_digit, octal_byte, octal_behind, behind_backslash, behind, in_front, then_read, unescaped_from, unescaped, Spells}
+use Rattle.dired_text.specs.Escape.{backslash, is_control, is_octal_digit, octal_byte, behind_backslash, in_front, then_read, unescaped_from, unescaped, Spells}
 use Rattle.dired_text.specs.declared.escaping.EscapeError.{EscapeError}
 use Rattle.dired_text.specs.declared.escaping.EscapeError.TheVariants.{BadEscape, Memory}
 
