@@ -10,7 +10,7 @@ mod sink;
 mod text;
 
 pub use modes::{mode_text, read_mode};
-pub use name::Name;
+pub use name::{Name, is_name_text};
 pub use path::{MAX_PATH_BYTES, Path, rest_below};
 pub use resolving::{NameError, resolve};
 pub use shelf::{Shelf, ShelfEnd};
