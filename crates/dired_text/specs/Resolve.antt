@@ -1,9 +1,9 @@
 -- What a text names from a directory, by its text alone: no link is followed and nothing is looked at.
-use Rattle.std.specs.Prelude.{ℕ, ◌+◌, ◌==◌, ◌||◌, nat_lt, nat_le, List, [], ◌∷◌, ◌++◌, length, position, Option, Some, None, Result, Ok, Err, if◌then◌else◌, codes}
+use Rattle.std.specs.Prelude.{◌≡◌, ◌⊎◌, ℕ, ◌+◌, ◌==◌, ◌||◌, nat_lt, nat_le, List, [], ◌∷◌, ◌++◌, length, position, Option, Some, None, Result, Ok, Err, if◌then◌else◌, codes}
 use Rattle.std.specs.Str.{bytes_eq}
 use Rattle.dired_text.specs.Paths.{Names, slash, parent, path_bytes, max_path_bytes}
 use Rattle.dired_text.specs.declared.resolving.NameError.{NameError}
-use Rattle.dired_text.specs.declared.resolving.NameError.TheVariants.{Empty, Absolute, AboveRoot, TooLong, Nul, Root}
+use Rattle.dired_text.specs.declared.resolving.NameError.TheVariants.{Empty, Absolute, AboveRoot, TooLong, Nul, Root, Memory}
 
 -- one byte more in front of the first of these
 abbrev pub with_first : ℕ → List (List ℕ) → List (List ℕ)
@@ -51,3 +51,8 @@ ended bytes (Ok (n ∷ p)) = if nat_le (path_bytes (n ∷ p)) max_path_bytes the
 abbrev pub resolved : Names → List ℕ → Result Names NameError
 resolved dir [] = Err Empty
 resolved dir (b ∷ bs) = if b == slash then Err Absolute else ended (length (b ∷ bs)) (walked dir 0 (components (b ∷ bs)))
+
+-- a walk that changed some names into these, was refused as was wanted, or found no memory
+abbrev pub Walks : Result Names NameError → Result (Unit {0}) NameError → Names → Type 0
+Walks wanted (Ok _) names = wanted ≡ Ok names
+Walks wanted (Err e) names = (e ≡ Memory) ⊎ (wanted ≡ Err e)

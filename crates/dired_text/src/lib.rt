@@ -1,14 +1,23 @@
 //! Names, paths and texts, and the traits of what a run reads and writes.
 #![tactic(auto)]
 
+mod escaping;
+mod mem_shelf;
+mod mem_sink;
 mod modes;
 mod name;
 mod path;
 mod resolving;
 mod shelf;
 mod sink;
+mod splitting;
+#[cfg(test)]
+mod tests;
 mod text;
 
+pub use escaping::{EscapeError, escape, escapes_come_back, unescape};
+pub use mem_shelf::MemShelf;
+pub use mem_sink::MemSink;
 pub use modes::{mode_text, read_mode};
 pub use name::{Name, is_name_text};
 pub use path::{MAX_PATH_BYTES, Path, rest_below};

@@ -1,5 +1,5 @@
 // Paths from the root of the tree.
-ghost use Rattle.std.specs.Prelude.{◌≡◌, ◌↔◌, ◌≤◌, [], ◌∷◌, ◌++◌, IfOk, OnOk, IfSome, IsSome, IsTrue, length, nat_eq, ◌+◌};
+ghost use Rattle.std.specs.Prelude.{◌≡◌, ◌↔◌, ◌≤◌, [], ◌∷◌, ◌++◌, IfOk, OnOk, IfSome, IsSome, IsTrue, length, nat_eq, nat_le, ◌+◌, if◌then◌else◌, Some, None};
 ghost use Rattle.std.specs.Option.{option_map};
 ghost use Rattle.std.specs.List.{join_with_byte};
 ghost use Rattle.std.specs.Ordering.{nat_cmp, as_partial_cmp};
@@ -55,8 +55,18 @@ impl Path {
             return Ok(None);
         }
         Ok(Some(Path {
-            names: copies(alloc, names)?,
+            names: copy_names(alloc, names)?,
         }))
+    }
+
+    // The path of these names, or None where joined by `/` they have more than 4,095 bytes. Takes no memory.
+    pub(crate) fn from_names(names: Vec<Name>) -> Option<Self>
+        ensures { result ≡ (if nat_le (path_bytes names.items) max_path_bytes then Some names.items else None) }
+    {
+        if !is_short(&names) {
+            return None;
+        }
+        Some(Path { names })
     }
 
     /// The names of the path, from the root down.
@@ -84,7 +94,7 @@ impl Path {
         ensures { IfOk result (λ p. p ≡ self.now) }
     {
         Ok(Path {
-            names: copies(*self.names.allocator(), &self.names)?,
+            names: copy_names(*self.names.allocator(), &self.names)?,
         })
     }
 }
@@ -101,7 +111,7 @@ fn push_names(text: &mut String, names: &[Name]) -> Result<(), Memory>
 }
 
 // Copies names.
-fn copies(alloc: Global, names: &[Name]) -> Result<Vec<Name>, Memory>
+pub(crate) fn copy_names(alloc: Global, names: &[Name]) -> Result<Vec<Name>, Memory>
     ensures { IfOk result (λ v. v.items ≡ names.now) }
 {
     let mut all = Vec::with_capacity(alloc, names.len())?;

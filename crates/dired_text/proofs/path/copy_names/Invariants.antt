@@ -1,5 +1,5 @@
 use Rattle.std.proofs.Common.{◌≡◌, take}
-use Rattle.dired_text.proofs.path.copies.Given as goal
+use Rattle.dired_text.proofs.path.copy_names.Given as goal
 
 abbrev pub invariant-loop-name : goal.invariant-loop-name
 invariant-loop-name l = l.all.items ≡ take l.name-index l.names
