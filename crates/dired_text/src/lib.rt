@@ -19,7 +19,7 @@ pub use escaping::{EscapeError, escape, escapes_come_back, unescape};
 pub use mem_shelf::MemShelf;
 pub use mem_sink::MemSink;
 pub use modes::{mode_text, read_mode};
-pub use name::Name;
+pub use name::{Name, is_name_text};
 pub use path::{MAX_PATH_BYTES, Path, rest_below};
 pub use resolving::{NameError, resolve};
 pub use shelf::{Shelf, ShelfEnd};

@@ -63,8 +63,8 @@ impl Name {
     }
 }
 
-// Whether a text is a name.
-fn is_name_text(text: &str) -> bool
+/// Whether a text is a name, by what [`Name`] says.
+pub fn is_name_text(text: &str) -> bool
     ensures { result ≡ is_name text.now }
 {
     let bytes = text.as_bytes();
