@@ -1,8 +1,6 @@
 //! The program `dired`: a directory editor whose commits survive a crash at any moment.
 #![tactic(auto)]
 
-
-
 mod commit;
 mod inputs;
 mod program;
@@ -14,13 +12,36 @@ mod requests;
 mod status;
 mod words;
 
-use std::io;
-
-
-
-pub use reports::report;
+pub use program::run;
 pub use status::{Counted, Status};
 
-fn main(_rt: HostRuntime) -> io::Result<()> {
-    Ok(())
+use real_inputs::RealInputs;
+use real_output::RealOutput;
+use real_tree::RealTree;
+use std::env;
+use std::process::ExitCode;
+
+// The ends that are no status of a run: the working directory can't be taken as the tree, and the words can't be had.
+const NO_TREE: u8 = 40;
+const NO_WORDS: u8 = 42;
+
+fn main(rt: HostRuntime) -> ExitCode {
+    let Ok(words) = words_after_the_name(&rt) else {
+        return ExitCode::from(NO_WORDS);
+    };
+    let Ok(mut tree) = RealTree::open(rt) else {
+        return ExitCode::from(NO_TREE);
+    };
+    let mut inputs = RealInputs::new(rt);
+    let mut output = RealOutput::new(rt);
+    let status = run(rt.alloc(), &words, &mut tree, &mut inputs, &mut output);
+    ExitCode::from(status.number())
+}
+
+fn words_after_the_name(rt: &HostRuntime) -> std::io::Result<Vec<String>> {
+    let mut words = Vec::new(rt.alloc());
+    for word in env::args(rt)?.skip(1) {
+        words.push(word)?;
+    }
+    Ok(words)
 }
