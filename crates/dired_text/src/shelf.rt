@@ -1,5 +1,5 @@
 // Named inputs.
-ghost use Rattle.std.specs.Prelude.{◌≡◌, List, ℕ, Option, Err};
+ghost use Rattle.std.specs.Prelude.{◌≡◌, ◌≤◌, List, ℕ, Option, Err, IfOk, length};
 ghost use Rattle.dired_text.specs.Outside.{ReadsAs, count_after, last_after};
 
 use crate::Bytes;
@@ -40,6 +40,7 @@ pub trait Shelf {
     /// # Errors
     /// `Absent` where nothing has the name, `TooLarge` where it has more bytes than the limit.
     fn read(&mut self, alloc: Global, name: &str, limit: u64) -> Result<Bytes, ShelfEnd>
+        ensures limit { IfOk result (λ bytes. length bytes ≤ limit) }
         ensures read { Tells → ReadsAs (files self.old name.now) limit result }
         ensures files { Tells → files self.new ≡ files self.old }
         ensures last_failed { Tells → last_failed self.new ≡ last_after result name.now (last_failed self.old) }
