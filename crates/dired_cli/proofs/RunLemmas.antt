@@ -6,7 +6,7 @@ use Rattle.tree_core.specs.FileTree.{FileTree}
 use Rattle.tree_core.specs.History.{History, current_tree, IsDurable}
 use Rattle.tree_core.specs.Faults.{with_fault}
 use Rattle.dired_cli.specs.declared.status.Status.{Status}
-use Rattle.dired_cli.specs.declared.status.Status.TheVariants.{Done, Usage, Memory, ReadFault, TreeFault, WriteFault, Missing, Stale, TooLarge, NotBuilt}
+use Rattle.dired_cli.specs.declared.status.Status.TheVariants.{Done, Usage, Memory, ReadFault, TreeFault, WriteFault, Missing, Faulty, Stale, TooLarge, NotBuilt}
 use Rattle.dired_cli.specs.Statuses.{number_of, text_of, has_fixed_text, ByCause, IsRefusal}
 use Rattle.dired_cli.specs.Reports.{Said, Reported, decided_of, output_of}
 use Rattle.dired_cli.specs.Verdicts.{Verdict, Refuses, Keeps, Renames, status_of, summary_of, edited, FaultLeaves, IsDone}
@@ -47,6 +47,7 @@ module _ (v : Verdict) (before now : Outside) (ended : Result (List ℕ) Status)
   refusal_decides (TreeFault first) durable is refused trees shelves = (refused, trees, shelves)
   refusal_decides (WriteFault held) durable no_way refused trees shelves = absurd no_way
   refusal_decides (Missing name) durable is refused trees shelves = by_verdict (Missing name) durable refused.0 refused.1 (trees, shelves)
+  refusal_decides (Faulty line cause) durable is refused trees shelves = by_verdict (Faulty line cause) durable refused.0 refused.1 (trees, shelves)
   refusal_decides (Stale line) durable is refused trees shelves = by_verdict (Stale line) durable refused.0 refused.1 (trees, shelves)
   refusal_decides (TooLarge what number) durable is refused trees shelves = by_verdict (TooLarge what number) durable refused.0 refused.1 (trees, shelves)
   refusal_decides (NotBuilt line) durable is refused trees shelves = by_verdict (NotBuilt line) durable refused.0 refused.1 (trees, shelves)
@@ -60,6 +61,7 @@ module _ (v : Verdict) (before now : Outside) (ended : Result (List ℕ) Status)
   short_decides (TreeFault first) is made refused trees = cc
   short_decides (WriteFault held) is made refused trees = cc
   short_decides (Missing name) is made refused trees = (refused.1, trees)
+  short_decides (Faulty line cause) is made refused trees = (refused.1, trees)
   short_decides (Stale line) is made refused trees = (refused.1, trees)
   short_decides (TooLarge what number) is made refused trees = (refused.1, trees)
   short_decides (NotBuilt line) is made refused trees = (refused.1, trees)
@@ -72,6 +74,7 @@ refusal_line v (ReadFault name) is = refl
 refusal_line v (TreeFault first) is = refl
 refusal_line v (WriteFault held) is = refl
 refusal_line v (Missing name) is = refl
+refusal_line v (Faulty line cause) is = refl
 refusal_line v (Stale line) is = refl
 refusal_line v (TooLarge what number) is = refl
 refusal_line v (NotBuilt line) is = refl

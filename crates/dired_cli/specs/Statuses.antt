@@ -3,10 +3,12 @@ use Rattle.std.specs.Prelude.{ℕ, Bool, true, false, List, [], ◌++◌, codes,
 use Rattle.dired_text.specs.Escape.{escaped}
 use Rattle.tree_core.specs.declared.node.CallName.{CallName}
 use Rattle.tree_core.specs.declared.node.CallName.TheVariants.{Kind, Mode, IsEmpty, Meta, Names, Read, MakeDir, MakeLink, MakeHard, WriteFile, Rename, SetMode, Remove, RemoveDir, Sync}
+use Rattle.wdired_buffer.specs.declared.faults.LineCause.{LineCause}
+use Rattle.wdired_buffer.specs.declared.faults.LineCause.TheVariants as cause
 use Rattle.dired_cli.specs.declared.status.Counted.{Counted}
 use Rattle.dired_cli.specs.declared.status.Counted.TheVariants.{BufferBytes}
 use Rattle.dired_cli.specs.declared.status.Status.{Status}
-use Rattle.dired_cli.specs.declared.status.Status.TheVariants.{Done, Usage, Memory, ReadFault, TreeFault, WriteFault, Missing, Stale, TooLarge, NotBuilt}
+use Rattle.dired_cli.specs.declared.status.Status.TheVariants.{Done, Usage, Memory, ReadFault, TreeFault, WriteFault, Missing, Faulty, Stale, TooLarge, NotBuilt}
 
 abbrev pub number_of : Status → ℕ
 number_of Done = 0
@@ -16,6 +18,7 @@ number_of (ReadFault name) = 3
 number_of (TreeFault first) = 4
 number_of (WriteFault held) = 5
 number_of (Missing name) = 6
+number_of (Faulty line cause) = 8
 number_of (Stale line) = 10
 number_of (TooLarge what number) = 18
 number_of (NotBuilt line) = 23
@@ -40,6 +43,11 @@ call_text Sync = codes "sync"
 abbrev pub counted_text : Counted → List ℕ
 counted_text BufferBytes = codes "BufferBytes"
 
+abbrev pub cause_text : LineCause → List ℕ
+cause_text cause.LineCount = codes "LineCount"
+cause_text cause.Fixed = codes "Fixed"
+cause_text cause.BadName = codes "BadName"
+
 -- the text of a status, with names escaped; empty for one that has none
 abbrev pub text_of : Status → List ℕ
 text_of Done = []
@@ -49,6 +57,7 @@ text_of (ReadFault name) = codes "dired: cannot read " ++ escaped false name ++ 
 text_of (TreeFault first) = codes "dired: " ++ call_text first ++ codes " failed; nothing was decided\n"
 text_of (WriteFault held) = []
 text_of (Missing name) = codes "dired: no such input: " ++ escaped false name ++ codes "\n"
+text_of (Faulty line cause) = codes "dired: line " ++ decimal line ++ codes ": " ++ cause_text cause ++ codes "\n"
 text_of (Stale line) = codes "dired: line " ++ decimal line ++ codes ": the file is not as shown\n"
 text_of (TooLarge what number) = codes "dired: too large: " ++ counted_text what ++ codes " " ++ decimal number ++ codes "\n"
 text_of (NotBuilt line) = codes "dired: line " ++ decimal line ++ codes ": not built yet\n"
@@ -62,6 +71,7 @@ has_fixed_text (ReadFault name) = false
 has_fixed_text (TreeFault first) = true
 has_fixed_text (WriteFault held) = true
 has_fixed_text (Missing name) = false
+has_fixed_text (Faulty line cause) = false
 has_fixed_text (Stale line) = false
 has_fixed_text (TooLarge what number) = false
 has_fixed_text (NotBuilt line) = false
@@ -75,6 +85,7 @@ ByCause (ReadFault name) M F G R = G name
 ByCause (TreeFault first) M F G R = F first
 ByCause (WriteFault held) M F G R = R
 ByCause (Missing name) M F G R = R
+ByCause (Faulty line cause) M F G R = R
 ByCause (Stale line) M F G R = R
 ByCause (TooLarge what number) M F G R = R
 ByCause (NotBuilt line) M F G R = R
@@ -88,6 +99,7 @@ IsRefusal (ReadFault name) = Unit {0}
 IsRefusal (TreeFault first) = Unit {0}
 IsRefusal (WriteFault held) = ⊥
 IsRefusal (Missing name) = Unit {0}
+IsRefusal (Faulty line cause) = Unit {0}
 IsRefusal (Stale line) = Unit {0}
 IsRefusal (TooLarge what number) = Unit {0}
 IsRefusal (NotBuilt line) = Unit {0}

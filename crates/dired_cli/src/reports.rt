@@ -38,6 +38,7 @@ fn say_fixed<W: Sink>(sink: &mut W, status: Status) -> Status
         Status::WriteFault { held } => say(sink, "", Status::WriteFault { held }),
         Status::ReadFault { .. }
         | Status::Missing { .. }
+        | Status::Faulty { .. }
         | Status::Stale { .. }
         | Status::TooLarge { .. }
         | Status::NotBuilt { .. } => unreachable!(),

@@ -1,11 +1,12 @@
 // What a run answers.
 ghost use Rattle.std.specs.Prelude.{◌≡◌, IfOk};
 ghost use Rattle.std.specs.String.{string_bytes};
-ghost use Rattle.dired_cli.specs.Statuses.{call_text as call_text_of};
+ghost use Rattle.dired_cli.specs.Statuses.{call_text as call_text_of, cause_text as cause_text_of};
 
 use dired_text::{Memory, Text, escape};
 use std::alloc::Global;
 use tree_core::CallName;
+use wdired_buffer::LineCause;
 
 /// A quantity that has a limit.
 #[derive(Clone, Copy, Debug, PartialEq, Eq)]
@@ -33,6 +34,8 @@ pub enum Status {
     WriteFault { held: u8 },
     /// There is no input of this name.
     Missing { name: Text },
+    /// This line of AFTER, counted from 1, can't be taken, for this cause.
+    Faulty { line: u32, cause: LineCause },
     /// The entry of this line, counted from 1, is not as the line shows it.
     Stale { line: u32 },
     /// A quantity is above its limit. `number` is the limit plus 1.
@@ -56,6 +59,7 @@ impl Status {
             Status::TreeFault { .. } => 4,
             Status::WriteFault { .. } => 5,
             Status::Missing { .. } => 6,
+            Status::Faulty { .. } => 8,
             Status::Stale { .. } => 10,
             Status::TooLarge { .. } => 18,
             Status::NotBuilt { .. } => 23,
@@ -70,6 +74,7 @@ impl Status {
             self,
             Status::ReadFault { .. }
                 | Status::Missing { .. }
+                | Status::Faulty { .. }
                 | Status::Stale { .. }
                 | Status::TooLarge { .. }
                 | Status::NotBuilt { .. }
@@ -94,6 +99,9 @@ impl Status {
             Status::Missing { name } => {
                 let name = escape(alloc, name.as_str(), false)?;
                 Ok(format!(in alloc; "dired: no such input: {}\n", name.as_str())?)
+            }
+            Status::Faulty { line, cause } => {
+                Ok(format!(in alloc; "dired: line {line}: {}\n", cause_text(*cause))?)
             }
             Status::Stale { line } => {
                 Ok(format!(in alloc; "dired: line {line}: the file is not as shown\n")?)
@@ -133,6 +141,17 @@ pub fn call_text(call: CallName) -> &'static str
         CallName::Remove => "remove",
         CallName::RemoveDir => "remove_dir",
         CallName::Sync => "sync",
+    }
+}
+
+// The name of a cause.
+fn cause_text(cause: LineCause) -> &'static str
+    ensures { result.now ≡ cause_text_of cause }
+{
+    match cause {
+        LineCause::LineCount => "LineCount",
+        LineCause::Fixed => "Fixed",
+        LineCause::BadName => "BadName",
     }
 }
 

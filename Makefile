@@ -1,0 +1,24 @@
+# Needs the Rattle kit's `rt` on the PATH.
+PREFIX ?= /usr/local
+PROGRAM = crates/dired_cli/out/dired_cli
+
+.PHONY: demo test install bench
+
+# Proves and builds the program, and carries out a real edit in a throw-away folder.
+demo: $(PROGRAM)
+	bash scripts/demo.sh $(PROGRAM)
+
+# The gate: every proof, must-fail edit, test and program.
+test:
+	bash .ci/run
+
+install: $(PROGRAM)
+	install -D -m 755 $(PROGRAM) $(DESTDIR)$(PREFIX)/bin/dired
+
+bench: $(PROGRAM)
+	bash bench/one-name.sh $(PROGRAM)
+
+# `rt run` proves, builds and runs; without words the program ends with status 1.
+$(PROGRAM): crates.txt $(wildcard crates/*/src/*.rt crates/*/specs/*.antt crates/*/proofs/*.antt)
+	cd crates/dired_cli && { rt run > /dev/null || true; }
+	touch $@

@@ -1,0 +1,31 @@
+#!/usr/bin/env bash
+# One edited name in a listing of 100,000 and of 200,000 lines: the time of `commit` beside `cat BEFORE AFTER | md5sum`.
+# one-name.sh [PROGRAM]
+set -eu
+top=$(dirname "$(readlink -f "$0")")/..
+program=$(readlink -f "${1:-$top/crates/dired_cli/out/dired_cli}")
+work=$(mktemp -d)
+trap 'rm -rf "$work"' EXIT
+mkdir "$work/tree"
+
+# milliseconds that a command takes, the least of five runs
+least() {
+    local best=999999999 start end
+    for _ in 1 2 3 4 5; do
+        start=$(date +%s%N); "$@" > /dev/null; end=$(date +%s%N)
+        [ $((end - start)) -ge "$best" ] || best=$((end - start))
+    done
+    awk -v n="$best" 'BEGIN { printf "%.1f", n / 1000000 }'
+}
+commit() { cd "$work/tree"; : > zz; rm -f zy; chmod 644 zz; "$program" commit ../before ../after; cd - > /dev/null; }
+digest() { cat "$work/before" "$work/after" | md5sum; }
+
+: > "$work/tree/zz"; chmod 644 "$work/tree/zz"
+for lines in 100000 200000; do
+    awk -v n="$lines" 'BEGIN { print "dired 1"; print "  .:"; print "  total " n
+        for (i = 1; i < n; i++) printf "  -rw-r--r-- 1 user group 0 2026-01-01 00:00 file%06d\n", i
+        print "  -rw-r--r-- 1 user group 0 2026-01-01 00:00 zz" }' > "$work/before"
+    sed 's/ zz$/ zy/' "$work/before" > "$work/after"
+    a=$(least commit); b=$(least digest)
+    awk -v l="$lines" -v a="$a" -v b="$b" 'BEGIN { printf "%d lines: commit %s ms, cat | md5sum %s ms, ratio %.1f\n", l, a, b, a / b }'
+done

@@ -1,0 +1,96 @@
+#!/usr/bin/env bash
+# Runs the built program on real folders, and compares what it answers, prints and leaves with what it should.
+# real-folder.sh [PROGRAM]
+set -u
+top=$(dirname "$(readlink -f "$0")")/..
+program=$(readlink -f "${1:-$top/crates/dired_cli/out/dired_cli}")
+listing="$top/scripts/listing.sh"
+[ -x "$program" ] || { echo "real-folder: no program at $program"; exit 1; }
+work=$(mktemp -d)
+trap 'rm -rf "$work"' EXIT
+failed=0
+
+# A fresh folder with the files a and b, its listing in before, and a copy of it in after.
+fresh() {
+    rm -rf "$work"/*
+    mkdir "$work/tree"
+    printf 'first\n' > "$work/tree/a"
+    printf 'second\n' > "$work/tree/b"
+    chmod 644 "$work"/tree/*
+    bash "$listing" "$work/tree" > "$work/before"
+    cp "$work/before" "$work/after"
+}
+
+# The names in the folder with the inode and the bytes of each.
+shown() { (cd "$work/tree" && for f in $(ls -A); do printf '%s %s %s\n' "$f" "$(stat -c %i "$f")" "$(md5sum < "$f")"; done); }
+
+# Runs the program in the folder; its status and output must be these: run NAME STATUS OUTPUT WORDS..
+run() {
+    local name=$1 status=$2 output=$3; shift 3
+    (cd "$work/tree" && "$program" "$@" > "$work/printed" 2> "$work/errors"); local got=$?
+    printf '%s' "$output" > "$work/wanted"
+    if [ "$got" != "$status" ] || ! cmp -s "$work/printed" "$work/wanted" || [ -s "$work/errors" ]; then
+        failed=1
+        printf 'FAILED %s: status %s, wanted %s; printed:\n' "$name" "$got" "$status"
+        cat "$work/printed" "$work/errors"
+    fi
+}
+unchanged() { [ "$(shown)" = "$2" ] || { failed=1; echo "FAILED $1: the folder changed"; }; }
+
+done_one=$'renamed 1, retargeted 0, modes 0, replaced 0, made 0, flagged 0\n'
+done_none=$'renamed 0, retargeted 0, modes 0, replaced 0, made 0, flagged 0\n'
+
+fresh; sed -i 's/ a$/ c/' "$work/after"; before=$(shown)
+run 'one name' 0 "$done_one" commit ../before ../after
+unchanged 'one name' "$(printf '%s\n' "$before" | sed 's/^a /c /' | sort)"
+
+fresh; sed -i 's/ a$/ née x/' "$work/after"
+run 'a name with a space and a letter beyond ASCII' 0 "$done_one" commit ../before ../after
+[ "$(cat "$work/tree/née x")" = first ] || { failed=1; echo 'FAILED: the new name'; }
+
+fresh; before=$(shown); run 'no edit' 0 "$done_none" commit ../before ../after; unchanged 'no edit' "$before"
+fresh; printf '%s' "$(cat "$work/before")" > "$work/after"
+run 'AFTER without its last newline' 0 "$done_none" commit ../before ../after
+fresh; before=$(shown)
+run 'too few words' 1 $'dired: usage: list, commit, run, recover or drill\n' commit ../before
+run 'no words' 1 $'dired: usage: list, commit, run, recover or drill\n'
+run 'no such AFTER' 6 $'dired: no such input: ../nothing\n' commit ../before ../nothing
+run 'no such BEFORE' 6 $'dired: no such input: no\\nline\n' commit $'no\nline' ../after
+run 'an input that is a directory' 3 $'dired: cannot read .\n' commit . ../after
+printf '' > "$work/empty"; run 'an empty BEFORE' 23 $'dired: line 1: not built yet\n' commit ../empty ../after
+printf '' > "$work/empty"; run 'an empty AFTER' 8 $'dired: line 1: LineCount\n' commit ../before ../empty
+printf 'dired 1\n  .:\n  total 0\n' > "$work/none"; run 'no files' 0 "$done_none" commit ../none ../none
+sed 's/ b$/ \xff/' "$work/before" > "$work/bytes"
+run 'a BEFORE that is no UTF-8' 23 $'dired: line 5: not built yet\n' commit ../bytes ../bytes
+run 'an AFTER that is no UTF-8' 8 $'dired: line 5: BadName\n' commit ../before ../bytes
+head -c 33554433 /dev/zero > "$work/large"
+run 'too large' 18 $'dired: too large: BufferBytes 33554433\n' commit ../large ../after
+rm "$work/large"
+sed 's/ b$/ d/; s/ a$/ c/' "$work/before" > "$work/after"
+run 'two edits' 23 $'dired: line 5: not built yet\n' commit ../before ../after
+sed 's/ a$/ b/' "$work/before" > "$work/after"
+run 'a name that is taken' 23 $'dired: line 4: not built yet\n' commit ../before ../after
+sed 's/ a$/ x\/c/' "$work/before" > "$work/after"
+run 'another directory' 23 $'dired: line 4: not built yet\n' commit ../before ../after
+sed 's/ a$/ .wdired-commit/' "$work/before" > "$work/after"
+run 'the name of the staging directory' 23 $'dired: line 4: not built yet\n' commit ../before ../after
+sed 's/ a$/ c/; s/^  -rw-r--r--/  -rw-r-----/' "$work/before" > "$work/after"
+run 'a mode edited' 8 $'dired: line 4: Fixed\n' commit ../before ../after
+unchanged 'refusals' "$before"
+
+fresh; sed -i 's/ a$/ c/' "$work/after"; chmod 600 "$work/tree/a"; before=$(shown)
+run 'a stale line' 10 $'dired: line 4: the file is not as shown\n' commit ../before ../after
+unchanged 'a stale line' "$before"
+fresh; sed -i 's/ a$/ c/' "$work/after"; rm "$work/tree/a"; ln -s b "$work/tree/a"
+run 'a link in place of the file' 10 $'dired: line 4: the file is not as shown\n' commit ../before ../after
+fresh; sed -i 's/ a$/ c/' "$work/after"; rm "$work/tree/a"; mkfifo "$work/tree/a"
+run 'a pipe in place of the file' 4 $'dired: kind failed; nothing was decided\n' commit ../before ../after
+fresh; sed -i 's/ a$/ c/' "$work/after"
+(cd "$work/tree" && cat ../before | "$program" commit - ../after) > "$work/printed"; got=$?
+{ [ "$got" = 0 ] && [ "$(cat "$work/printed")$(printf '\n')" = "${done_one%$'\n'}" ]; } || { failed=1; echo "FAILED BEFORE on standard input: status $got"; }
+fresh; sed -i 's/ a$/ c/' "$work/after"
+(cd "$work/tree" && "$program" commit ../before ../after >&-); got=$?
+{ [ "$got" = 5 ] && [ -e "$work/tree/c" ]; } || { failed=1; echo "FAILED a closed output: status $got"; }
+
+[ "$failed" = 0 ] && echo 'real-folder: all as it should be'
+exit "$failed"
