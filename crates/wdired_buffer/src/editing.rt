@@ -61,7 +61,12 @@ pub fn edits(alloc: Global, before: &[BufferLine], after: &[u8]) -> Result<Edite
 }
 
 // The edit that the line of this number asks for by its new text, if any.
-fn line_change(alloc: Global, number: u32, line: &BufferLine, after: &[u8]) -> Result<Option<Edit>, EditsFault>
+fn line_change(
+    alloc: Global,
+    number: u32,
+    line: &BufferLine,
+    after: &[u8],
+) -> Result<Option<Edit>, EditsFault>
     ensures edit { IfOk result (λ edit. change_of number line.now after.now ≡ Ok (option_to_list edit)) }
     ensures refused { IfErr result (λ e. (e ≡ memory) ⊎ (change_of number line.now after.now ≡ Err e)) }
 {

@@ -1,5 +1,6 @@
 // Why a buffer isn't taken.
 ghost use Rattle.std.specs.Prelude.{◌≡◌};
+
 use dired_text::Memory;
 use std::alloc::AllocFailed;
 

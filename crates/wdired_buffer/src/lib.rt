@@ -6,6 +6,8 @@ mod faults;
 mod line;
 mod reading;
 mod splitting;
+#[cfg(test)]
+mod tests;
 
 pub use editing::{Edited, edits};
 pub use faults::{BufferFault, EditsFault, LineCause};

@@ -14,7 +14,9 @@ use tree_core::{Kind, Shown};
 
 // The first two lines of a listing of one directory, and how the third begins.
 const FORMAT: &[u8] = b"dired 1";
+
 const HERE: &[u8] = b"  .:";
+
 const TOTAL: &[u8] = b"  total ";
 
 /// The lines of a listing: `dired 1`, `  .:`, `  total ` with 1 to 18 digits, and then lines of plain files. A newline

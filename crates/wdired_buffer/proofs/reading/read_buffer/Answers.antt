@@ -27,7 +27,7 @@ loop-text-preserved c =
       so_far = c.loop-text.invariant.so_far
           ∙ line_taken c.loop-text.all.items c.in_ok-read_line.field-0 c.loop-text.number c.loop-text.rest.now c.in-Some.text.now c.in-Some.behind.now first line
           ∙ ap (λ xs. in_front xs (lines_from (c.loop-text.number + 1) (lines c.in-Some.behind.now))) (sym pushed);
-      count = omega arith
+      count = omega arith;
     }
 
 pub returns-then-number-le3-clause-refused : goal.returns-then-number-le3-clause-refused

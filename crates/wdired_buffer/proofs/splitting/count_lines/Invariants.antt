@@ -5,7 +5,7 @@ use Rattle.wdired_buffer.proofs.splitting.count_lines.Given as goal
 abbrev pub invariant-loop-behind : goal.invariant-loop-behind
 invariant-loop-behind l = record {
   counted : l.count + length (lines l.rest) ≡ length (lines l.text);
-  bound : l.count + length l.rest ≤ length l.text
+  bound : l.count + length l.rest ≤ length l.text;
 }
 
 abbrev pub decreases-loop-behind : goal.decreases-loop-behind
