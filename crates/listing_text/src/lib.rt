@@ -3,4 +3,4 @@
 
 mod plain;
 
-pub use plain::{Plain, read_plain};
+pub use plain::{Plain, has_plain_bytes, read_plain};

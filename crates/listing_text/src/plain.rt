@@ -120,8 +120,8 @@ fn is_plain_name(name: &[u8]) -> bool
     }
 }
 
-// Whether each byte shows itself: no control byte and no backslash.
-fn has_plain_bytes(name: &[u8]) -> bool
+/// Whether each byte shows itself: no control byte (below 32, or 127) and no backslash.
+pub fn has_plain_bytes(name: &[u8]) -> bool
     ensures { result ≡ list_all is_plain_byte name.now }
 {
     name.iter().all(|b| 32 <= *b && *b != 127 && *b != b'\\')
