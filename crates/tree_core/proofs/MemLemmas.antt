@@ -59,6 +59,9 @@ module _ (began : List Row) (first : ℕ) (old new : List Attempt) (change : Cha
   history_of-undone true f is = cc
   history_of-undone false f is = ap (history_of began first) is ∙ history_after-push _ old _
 
+  pub history_of-if : (d : Bool) → new ≡ old ++ record { change = change; is_done = d; is_ok = is_ok } ∷ [] → history_of began first new ≡ (if d then Then (history_of began first old) change else history_of began first old)
+  history_of-if d is = ap (history_of began first) is ∙ history_after-push _ old _
+
   pub history_of-either : (d : Bool) → new ≡ old ++ record { change = change; is_done = d; is_ok = is_ok } ∷ []
       → (history_of began first new ≡ history_of began first old) ⊎ (history_of began first new ≡ Then (history_of began first old) change)
   history_of-either true is = inr (history_of-done true refl is)

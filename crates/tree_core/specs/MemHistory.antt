@@ -39,6 +39,10 @@ told m = record { history = history_told m; faults = m.faults; short = m.short; 
 abbrev pub untouched : History → Told
 untouched h = record { history = h; faults = record { count = 0; last = None; last_before = None }; short = 0; failing_changes = []; failing_looks = [] }
 
+-- the schedules and their counts stay
+abbrev pub SameSchedule : MemTree → MemTree → Type 0
+SameSchedule old new = (new.failing_changes ≡ old.failing_changes) × (new.changes ≡ old.changes) × (new.failing_looks ≡ old.failing_looks) × (new.looks ≡ old.looks)
+
 abbrev pub ChangeMayFail : MemTree → MemTree → Type 0
 ChangeMayFail old new = IsTrue (is_some (fate_told old)) ⊎ Rose old.short new.short
 

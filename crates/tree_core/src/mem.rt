@@ -1,11 +1,11 @@
 // A tree in memory.
-ghost use Rattle.std.specs.Prelude.{◌≡◌, ◌⊎◌, ◌≤◌, ◌<◌, ◌-◌, ◌^◌, None, List, [], ◌++◌, map, All, IfOk, IfErr, IfSome, IfNone, OnOk, OnErr, true, false, not, is_some, length, if◌then◌else◌};
+ghost use Rattle.std.specs.Prelude.{◌≡◌, ◌⊎◌, ◌≤◌, ◌<◌, ◌-◌, ◌^◌, None, List, [], ◌++◌, map, All, IfOk, IfErr, IfSome, IfNone, OnOk, OnErr, true, false, not, is_some, is_err, IsTrue, length, if◌then◌else◌};
 ghost use Rattle.std.specs.Option.{unwrap_or};
 ghost use Rattle.std.specs.FinMap.{get};
 ghost use Rattle.dired_text.specs.Paths.{Names};
 ghost use Rattle.dired_text.specs.Counts.{raised, Rose};
 ghost use Rattle.tree_core.specs.FileTree.{CanDo, next_after, root_tree};
-ghost use Rattle.tree_core.specs.History.{History, Began, IsSound, Changes, FailedAt, current_tree, next_number as number_told, is_sync as is_sync_call, crash_images, IsCrashState};
+ghost use Rattle.tree_core.specs.History.{History, Began, Then, IsSound, Changes, FailedAt, current_tree, next_number as number_told, is_sync as is_sync_call, crash_images, IsCrashState};
 ghost use Rattle.tree_core.specs.Faults.{HasCause, with_fault};
 ghost use Rattle.tree_core.specs.Mem.{tree_of, history_of, CouldDo, scheduled, NeedsMore, images_at};
 ghost use Rattle.tree_core.specs.Built.{built, next_of, first_bad, Refuses};
@@ -103,7 +103,7 @@ fn is_sync(change: &Change) -> bool
 }
 
 impl MemTree {
-    ghost use Rattle.tree_core.specs.MemHistory.{history_told, before_failed_told, fate_told, look_fails_told, told, untouched};
+    ghost use Rattle.tree_core.specs.MemHistory.{history_told, before_failed_told, fate_told, look_fails_told, told, untouched, SameSchedule};
 
     /// The tree of the entries, whose root has the mode 0o755. Nothing is pending, and no call is to fail.
     ///
@@ -223,12 +223,20 @@ impl MemTree {
         Ok(images)
     }
 
+    /// Its failed calls.
+    pub fn faults(&self) -> Faults
+        ensures { result ≡ self.now.faults }
+    {
+        self.faults
+    }
+
     // Fails before anything is done.
     fn give_up(&mut self, call: CallName) -> Failed
         ensures history { history_told self.new ≡ history_told self.old }
         ensures before_failed { before_failed_told self.new ≡ current_tree (history_told self.old) }
         ensures cause { self.new.faults ≡ with_fault call self.old.faults }
         ensures short { self.new.short ≡ self.old.short }
+        ensures schedule { SameSchedule self.old self.new }
     {
         self.before_fault = self.attempts.len();
         self.faults.note(call);
@@ -241,6 +249,7 @@ impl MemTree {
         ensures before_failed { before_failed_told self.new ≡ current_tree (history_told self.old) }
         ensures cause { self.new.faults ≡ with_fault call self.old.faults }
         ensures short { self.new.short ≡ raised self.old.short }
+        ensures schedule { SameSchedule self.old self.new }
     {
         self.short = self.short.saturating_add(1);
         self.give_up(call)
@@ -273,6 +282,9 @@ impl MemTree {
         ensures history { Changes change (history_told self.old) (history_told self.new) result }
         ensures before_failed { FailedAt result (history_told self.old) (before_failed_told self.old) (before_failed_told self.new) }
         ensures cause { HasCause call self.old.faults self.new.faults result }
+        ensures scheduled { fate.is_ok ≡ false → IsTrue (is_err result) }
+        ensures done { (Rose self.old.short self.new.short ⊎ NeedsMore change (number_told (history_told self.old))) ⊎ (history_told self.new ≡ (if fate.is_done then Then (history_told self.old) change else history_told self.old)) }
+        ensures schedule { SameSchedule self.old self.new }
         ensures may_fail { OnErr result ((fate.is_ok ≡ false) ⊎ (Rose self.old.short self.new.short ⊎ NeedsMore change (number_told (history_told self.old)))) }
     {
         let before = self.attempts.len();
