@@ -4,3 +4,4 @@ pub mod Torn
 pub mod Moments
 pub mod MemLemmas
 pub mod BuiltLemmas
+pub mod ImageLemmas

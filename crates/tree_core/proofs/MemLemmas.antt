@@ -59,6 +59,9 @@ module _ (began : List Row) (first : ℕ) (old new : List Attempt) (change : Cha
   history_of-undone true f is = cc
   history_of-undone false f is = ap (history_of began first) is ∙ history_after-push _ old _
 
+  pub history_of-if : (d : Bool) → new ≡ old ++ record { change = change; is_done = d; is_ok = is_ok } ∷ [] → history_of began first new ≡ (if d then Then (history_of began first old) change else history_of began first old)
+  history_of-if d is = ap (history_of began first) is ∙ history_after-push _ old _
+
   pub history_of-either : (d : Bool) → new ≡ old ++ record { change = change; is_done = d; is_ok = is_ok } ∷ []
       → (history_of began first new ≡ history_of began first old) ⊎ (history_of began first new ≡ Then (history_of began first old) change)
   history_of-either true is = inr (history_of-done true refl is)
@@ -84,10 +87,13 @@ moved_tree es fs from to tree can moved = ap from_entries moved ∙ made-moved f
 abbrev pub by_number : ℕ → ℕ → Names × Node → Names × Node
 by_number number mode e = (e.0, with_file_mode number mode e.1)
 
+pub mapped_tree : (f : Node → Node) (es fs : List Row) → pairs fs ≡ map (λ (e : Names × Node). (e.0, f e.1)) (pairs es) → tree_of fs ≡ with_nodes f (tree_of es)
+mapped_tree f es fs is = same_tree _ _ (λ q.
+    entry_tree fs q ∙ ap (find path_cmp q) is ∙ find-map_nodes f (pairs es) q
+    ∙ ap (option_map f) (sym (entry_tree es q)) ∙ sym (get-with_nodes f (tree_of es) q))
+
 pub number_tree : (es fs : List Row) (number mode : ℕ) → pairs fs ≡ map (by_number number mode) (pairs es) → tree_of fs ≡ with_nodes (with_file_mode number mode) (tree_of es)
-number_tree es fs number mode is = same_tree _ _ (λ q.
-    entry_tree fs q ∙ ap (find path_cmp q) is ∙ find-map_nodes (with_file_mode number mode) (pairs es) q
-    ∙ ap (option_map (with_file_mode number mode)) (sym (entry_tree es q)) ∙ sym (get-with_nodes (with_file_mode number mode) (tree_of es) q))
+number_tree es fs number mode is = mapped_tree (with_file_mode number mode) es fs is
 
 abbrev pub by_path : Names → ℕ → Names × Node → Names × Node
 by_path p mode e = (e.0, if is_same_path p e.0 then Dir mode else e.1)

@@ -1,5 +1,11 @@
 -- How a history goes on, and what a crash leaves at each moment of it.
-use Rattle.std.proofs.Common.{◌≡◌, ◌⊎◌, inl, inr, ⊎_elim, ℕ, ◌+◌, ◌≤◌, Bool, true, false, List, [], ◌∷◌, refl, sym, ◌∙◌, ap, subst, arith, Result, Ok, Err, is_err, is_ok}
+use Rattle.std.proofs.Common.{◌≡◌, ◌⊎◌, inl, inr, ⊎_elim, ℕ, ◌+◌, ◌≤◌, Bool, true, false, List, [], ◌∷◌, refl, sym, ◌∙◌, ap, subst, arith, Result, Ok, Err, is_err, is_ok, Option, Some, None, is_some, IsTrue, cond, if◌then◌else◌, ◌==◌}
+use Rattle.std.proofs.lemmas.Bool.{cond-true, cond-false, cases_Bool, eqb-true, eq-eqb}
+use Rattle.std.specs.Option.{option_map}
+use Rattle.std.specs.List.{list_any}
+use Rattle.std.specs.FinMap.{get, find, entries, get-entries}
+use Rattle.dired_text.specs.Paths.{Names, path_cmp}
+use Rattle.dired_text.proofs.PathLemmas.{path_decides}
 use Rattle.dired_text.specs.declared.text.Failed.{Failed}
 use Rattle.tree_core.specs.declared.node.Node.{Node}
 use Rattle.tree_core.specs.declared.node.Node.TheVariants.{Dir, Link, File}
@@ -8,11 +14,68 @@ use Rattle.tree_core.specs.declared.node.Change.TheVariants.{Sync}
 use Rattle.tree_core.specs.declared.node.CallName.{CallName}
 use Rattle.tree_core.specs.declared.faults.Faults.{Faults}
 use Rattle.tree_core.specs.Faults.{HasCause}
-use Rattle.tree_core.specs.FileTree.{FileTree, done}
-use Rattle.tree_core.specs.History.{History, Began, Then, current_tree, next_number, clock, is_sync, is_write, written, with_bytes, IsTorn, IsCrashState, IsDurable, IsCrashStateSince, LeavesOnly, Changes}
-use Rattle.tree_core.proofs.TreeLemmas.{with_nodes-same}
+use Rattle.tree_core.specs.FileTree.{FileTree, IsTree, with_nodes, done}
+use Rattle.tree_core.specs.History.{History, Began, Then, current_tree, next_number, clock, is_sync, is_write, written, with_bytes, IsTorn, IsCrashState, IsDurable, IsCrashStateSince, LeavesOnly, Changes, emptied}
+use Rattle.tree_core.proofs.TreeLemmas.{Entries, tie, with_nodes-same, get-with_nodes, same_tree}
 
 -- ---- the crash model
+
+-- the bytes of a file, by its number
+pick : Option Node → ℕ → List ℕ → List ℕ
+pick None number other = other
+pick (Some (Dir mode)) number other = other
+pick (Some (Link target)) number other = other
+pick (Some (File n bytes mode)) number other = if n == number then bytes else other
+
+bytes_among : FileTree → Entries → ℕ → List ℕ
+bytes_among t [] number = []
+bytes_among t (e ∷ es) number = pick (get t e.0) number (bytes_among t es number)
+
+bytes_of : FileTree → ℕ → List ℕ
+bytes_of t number = bytes_among t (entries t) number
+
+module _ (t : FileTree) (tree : IsTree t) (q : Names) (number : ℕ) (bytes : List ℕ) (mode : ℕ) (at_q : get t q ≡ Some (File number bytes mode)) where
+  picked : (k : Names) (o : Option Node) (other : List ℕ) → get t k ≡ o → (q ≡ k) ⊎ (other ≡ bytes) → pick o number other ≡ bytes
+  unfolding pick
+  picked k o other at_k (inr same) = picked_else o at_k
+    where
+      picked_else : (o : Option Node) → get t k ≡ o → pick o number other ≡ bytes
+      picked_else None at_k = same
+      picked_else (Some (Dir m)) at_k = same
+      picked_else (Some (Link target)) at_k = same
+      picked_else (Some (File n b m)) at_k = elim (cases_Bool (n == number)) [
+        | inl is ↦ cond-true (n == number) b other is ∙ (tree.alike k q number b bytes m mode (at_k ∙ ap (λ x. Some (File x b m)) (eqb-true n number is)) at_q).0
+        | inr isnt ↦ cond-false (n == number) b other isnt ∙ same
+      ]
+  picked k o other at_k (inl here) =
+      let is : o ≡ Some (File number bytes mode) = sym at_k ∙ ap (get t) (sym here) ∙ at_q in
+      ap (λ x. pick x number other) is ∙ cond-true (number == number) bytes other (eq-eqb number number refl)
+
+  among : (es : Entries) → IsTrue (is_some (find path_cmp q es)) → bytes_among t es number ≡ bytes
+  unfolding bytes_among
+  among [] found = cc
+  among (e ∷ es) found = picked e.0 (get t e.0) _ refl (elim (cases_Bool (tie q e.0)) [
+    | inl is ↦ inl ((path_decides q e.0).0 is)
+    | inr isnt ↦ inr (among es (subst (λ (o : Option Node). IsTrue (is_some o)) (cond-false (tie q e.0) (Some e.1) (find path_cmp q es) isnt) found))
+  ])
+
+  of_number : bytes_of t number ≡ bytes
+  unfolding bytes_of
+  of_number = among (entries t) (ap is_some (sym (get-entries t q) ∙ at_q))
+
+-- to put its own bytes into each file changes nothing
+filled : (numbers : List ℕ) (t : FileTree) → IsTree t → with_nodes (with_bytes numbers (bytes_of t)) t ≡ t
+filled numbers t tree = same_tree _ _ (λ q. get-with_nodes (with_bytes numbers (bytes_of t)) t q ∙ same_at q (get t q) refl)
+  where
+    same_at : (q : Names) (o : Option Node) → get t q ≡ o → option_map (with_bytes numbers (bytes_of t)) o ≡ o
+    same_at q None e = refl
+    same_at q (Some (Dir mode)) e = refl
+    same_at q (Some (Link target)) e = refl
+    same_at q (Some (File number bytes mode)) e = ap (λ b. Some (File number b mode)) (same_bytes (list_any (λ n. n == number) numbers) (of_number t tree q number bytes mode e))
+      where
+        same_bytes : (b : Bool) → bytes_of t number ≡ bytes → (if b then bytes_of t number else bytes) ≡ bytes
+        same_bytes true same = same
+        same_bytes false same = refl
 
 with_bytes-none : (fill : ℕ → List ℕ) (node : Node) → with_bytes [] fill node ≡ node
 with_bytes-none fill (Dir mode) = refl
@@ -44,6 +107,23 @@ pub crash_state-first : (s : History) (change : Change) (c : FileTree) → is_sy
 crash_state-first s change c no_sync no_write left = ⊎_elim
     (λ torn. inl (torn_none _ c (subst (λ (ns : List ℕ). IsTorn ns (current_tree (Then (Then s Sync) change)) c) (written-same (Then s Sync) change no_sync no_write) torn)))
     (λ past. inr (durable-sync s c past)) (crash_state-then (Then s Sync) change c left)
+
+-- what is left now is left too behind a change more that is no sync
+pub crash_state-kept : (s : History) (change : Change) (c : FileTree) → is_sync change ≡ false → IsCrashState s c → IsCrashState (Then s change) c
+unfolding IsCrashState
+crash_state-kept s change c no_sync left = inr (no_sync, left)
+
+-- the tree that reads, with the written files empty
+pub crash_state-emptied : (s : History) → IsCrashState s (emptied s)
+unfolding IsCrashState
+crash_state-emptied (Began t next) = torn_none t _ ((λ n. []), refl)
+crash_state-emptied (Then s change) = inl ((λ n. []), refl)
+
+-- the tree that reads
+pub crash_state-now : (s : History) → IsTree (current_tree s) → IsCrashState s (current_tree s)
+unfolding IsCrashState
+crash_state-now (Began t next) tree = refl
+crash_state-now (Then s change) tree = inl (bytes_of (current_tree (Then s change)), sym (filled (written (Then s change)) (current_tree (Then s change)) tree))
 
 -- ---- moments
 

@@ -9,8 +9,9 @@ use Rattle.tree_core.specs.declared.node.Node.{Node}
 use Rattle.tree_core.specs.declared.node.Node.TheVariants.{Dir, Link, File}
 use Rattle.tree_core.specs.declared.node.Change.{Change}
 use Rattle.tree_core.specs.declared.node.Change.TheVariants.{MakeDir, MakeLink, MakeHard, WriteFile, Rename, SetMode, Remove, RemoveDir, Sync}
-use Rattle.tree_core.specs.History.{History, Began, Then, IsSound, current_tree, next_number}
+use Rattle.tree_core.specs.History.{History, Began, Then, IsSound, current_tree, next_number, with_bytes}
 use Rattle.std.specs.Option.{option_map}
+use Rattle.std.specs.List.{list_any}
 use Rattle.tree_core.specs.FileTree.{FileTree, IsTree, IsMode, IsLawful, IsDir, IsAbsent, Stands, CanMake, CanDo, IsFile, is_dir_node, is_file_node, with_nodes, with_file_mode, set_mode_of, insert_same, done, next_after, root_tree}
 use Rattle.tree_core.proofs.TreeLemmas.{tie, tie-other, dir_stands, absent_not, none_of, parent-push, get-with_nodes, renamed_tree, came_from}
 
@@ -273,3 +274,62 @@ root_sound = record {
   };
   above = λ q number b m at_q. absurd (no_file (tie q []) number b m (sym (root_shows q) ∙ at_q));
 }
+
+-- ---- files with other bytes
+
+module _ (t : FileTree) (numbers : List ℕ) (fill : ℕ → List ℕ) where
+  abbrev torn : Node → Node
+  torn = with_bytes numbers fill
+
+  torn_dir : (o : Option Node) → is_dir_node (option_map torn o) ≡ is_dir_node o
+  torn_dir None = refl
+  torn_dir (Some (Dir m)) = refl
+  torn_dir (Some (Link target)) = refl
+  torn_dir (Some (File n b m)) = refl
+
+  torn_some : (o : Option Node) → is_some (option_map torn o) ≡ is_some o
+  torn_some None = refl
+  torn_some (Some node) = refl
+
+  -- the file before
+  record Whole (o : Option Node) (n : ℕ) (b : List ℕ) (m : ℕ) : Type 0 where
+    old : List ℕ
+    was : o ≡ Some (File n old m)
+    now : b ≡ (if list_any (λ k. k == n) numbers then fill n else old)
+
+  whole : (o : Option Node) (n : ℕ) (b : List ℕ) (m : ℕ) → option_map torn o ≡ Some (File n b m) → Whole o n b m
+  whole None n b m e = cc
+  whole (Some (Dir k)) n b m e = cc
+  whole (Some (Link target)) n b m e = cc
+  whole (Some (File n0 b0 k)) n b m e =
+      let n_is : n0 ≡ n = cc in
+      let m_is : k ≡ m = cc in
+      let b_is : (if list_any (λ j. j == n0) numbers then fill n0 else b0) ≡ b = cc in
+      record { old = b0; was = cc; now = sym b_is ∙ ap (λ x. if list_any (λ j. j == x) numbers then fill x else b0) n_is }
+
+  shows_torn : (q : Names) → get (with_nodes torn t) q ≡ option_map torn (get t q)
+  shows_torn q = get-with_nodes torn t q
+
+  lawful_torn : (node : Node) → IsLawful node → IsLawful (torn node)
+  lawful_torn (Dir m) is_lawful = is_lawful
+  lawful_torn (Link target) is_lawful = is_lawful
+  lawful_torn (File n b m) is_lawful = is_lawful
+
+  whole_lawful : IsTree t → (q : Names) (node : Node) (o : Option Node) → get t q ≡ o → option_map torn o ≡ Some node → IsLawful node
+  whole_lawful tree q node None e shown = cc
+  whole_lawful tree q node (Some old) e shown = subst IsLawful (same_Some _ _ shown) (lawful_torn old (tree.lawful q old e))
+
+  pub torn_tree : IsTree t → IsTree (with_nodes (with_bytes numbers fill) t)
+  torn_tree tree = record {
+    root = ap is_dir_node (shows_torn []) ∙ torn_dir (get t []) ∙ tree.root;
+    parents = λ q n stands. ap is_dir_node (shows_torn q) ∙ torn_dir (get t q) ∙ tree.parents q n (sym (torn_some (get t (q ++ n ∷ []))) ∙ ap is_some (sym (shows_torn (q ++ n ∷ []))) ∙ stands);
+    alike = λ q r n b c m k at_q at_r.
+        let one = whole (get t q) n b m (sym (shows_torn q) ∙ at_q) in
+        let two = whole (get t r) n c k (sym (shows_torn r) ∙ at_r) in
+        let same = tree.alike q r n one.old two.old m k one.was two.was in
+        (one.now ∙ ap (λ x. if list_any (λ j. j == n) numbers then fill n else x) same.0 ∙ sym two.now, same.1);
+    lawful = λ q node e. whole_lawful tree q node (get t q) refl (sym (shows_torn q) ∙ e);
+  }
+
+  pub torn_above : (next : ℕ) → Above next t → Above next (with_nodes (with_bytes numbers fill) t)
+  torn_above next above q n b m e = above q n _ m (whole (get t q) n b m (sym (shows_torn q) ∙ e)).was

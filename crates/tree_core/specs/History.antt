@@ -1,6 +1,6 @@
 -- The history of a tree: what it began with, and each changing call that was done since. From it come the tree that
 -- reads now, what a crash may leave now, and what a crash might have left at each moment.
-use Rattle.std.specs.Prelude.{◌≡◌, ◌⊎◌, ℕ, ◌+◌, ◌≤◌, ◌<◌, Some, ◌==◌, Bool, true, false, List, [], ◌∷◌, Result, MatchResult, if◌then◌else◌}
+use Rattle.std.specs.Prelude.{◌≡◌, ◌⊎◌, ℕ, ◌+◌, ◌≤◌, ◌<◌, Some, ◌==◌, Bool, true, false, List, [], ◌∷◌, ◌++◌, Result, MatchResult, if◌then◌else◌}
 use Rattle.std.specs.List.{list_any}
 use Rattle.std.specs.FinMap.{get}
 use Rattle.dired_text.specs.Paths.{Names}
@@ -79,6 +79,19 @@ IsTorn numbers t c = (fill : ℕ → List ℕ) × (c ≡ with_nodes (with_bytes 
 unfoldable pub IsCrashState : History → FileTree → Type 0
 IsCrashState (Began t next) c = c ≡ t
 IsCrashState (Then h change) c = IsTorn (written (Then h change)) (current_tree (Then h change)) c ⊎ ((is_sync change ≡ false) × IsCrashState h c)
+
+-- the tree that reads, but that the files written since the last sync are empty
+abbrev pub emptied : History → FileTree
+emptied h = with_nodes (with_bytes (written h) (λ number. [])) (current_tree h)
+
+-- the tree that reads, with the files written since the last sync whole and with them empty
+abbrev pub images_of : History → List History
+images_of h = Began (current_tree h) (next_number h) ∷ Began (emptied h) (next_number h) ∷ []
+
+-- Trees that a crash now may leave, oldest first: each tree since the last sync twice, with its next file number.
+abbrev pub crash_images : History → List History
+crash_images (Began t next) = images_of (Began t next)
+crash_images (Then h change) = (if is_sync change then [] else crash_images h) ++ images_of (Then h change)
 
 -- ---- The end of the crash model.
 

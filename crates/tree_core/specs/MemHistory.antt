@@ -1,8 +1,9 @@
 -- What a tree in memory tells, and when its calls fail.
-use Rattle.std.specs.Prelude.{◌≡◌, ◌⊎◌, ℕ, ◌-◌, ◌^◌, ◌≤◌, Bool, Option, IsTrue, is_some, take}
+use Rattle.std.specs.Prelude.{◌≡◌, ◌⊎◌, ℕ, ◌-◌, ◌^◌, ◌≤◌, Bool, List, [], Option, None, IsTrue, is_some, take}
 use Rattle.tree_core.specs.declared.mem.MemTree.{MemTree}
 use Rattle.tree_core.specs.declared.node.CallName.{CallName}
 use Rattle.tree_core.specs.declared.node.CallName.TheVariants.{Kind, Mode, IsEmpty, Meta, Names, Read, MakeDir, MakeLink, MakeHard, WriteFile, Rename, SetMode, Remove, RemoveDir, Sync}
+use Rattle.tree_core.specs.declared.faults.Faults.{Faults}
 use Rattle.dired_text.specs.Counts.{Rose}
 use Rattle.tree_core.specs.FileTree.{FileTree}
 use Rattle.tree_core.specs.History.{History, current_tree, next_number}
@@ -22,6 +23,25 @@ fate_told m = scheduled m.failing_changes.items m.changes
 -- whether the next look is to fail
 abbrev pub look_fails_told : MemTree → Bool
 look_fails_told m = is_listed m.failing_looks.items m.looks
+
+-- all that a tree in memory tells
+pub record Told : Type 0 where
+  pub history : History
+  pub faults : Faults
+  pub short : ℕ
+  pub failing_changes : List (ℕ × Bool)
+  pub failing_looks : List ℕ
+
+abbrev pub told : MemTree → Told
+told m = record { history = history_told m; faults = m.faults; short = m.short; failing_changes = m.failing_changes.items; failing_looks = m.failing_looks.items }
+
+-- of this history, no call failed and none is to fail
+abbrev pub untouched : History → Told
+untouched h = record { history = h; faults = record { count = 0; last = None; last_before = None }; short = 0; failing_changes = []; failing_looks = [] }
+
+-- the schedules and their counts stay
+abbrev pub SameSchedule : MemTree → MemTree → Type 0
+SameSchedule old new = (new.failing_changes ≡ old.failing_changes) × (new.changes ≡ old.changes) × (new.failing_looks ≡ old.failing_looks) × (new.looks ≡ old.looks)
 
 abbrev pub ChangeMayFail : MemTree → MemTree → Type 0
 ChangeMayFail old new = IsTrue (is_some (fate_told old)) ⊎ Rose old.short new.short

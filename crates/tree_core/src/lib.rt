@@ -7,6 +7,7 @@ mod edit;
 mod faults;
 mod mem;
 mod node;
+mod replay;
 mod rows;
 mod tree;
 

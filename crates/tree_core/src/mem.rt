@@ -1,19 +1,20 @@
 // A tree in memory.
-ghost use Rattle.std.specs.Prelude.{◌≡◌, ◌⊎◌, ◌≤◌, ◌-◌, ◌^◌, None, List, [], IfOk, IfErr, IfSome, IfNone, OnOk, OnErr, true, false, not, is_some, length, if◌then◌else◌};
+ghost use Rattle.std.specs.Prelude.{◌≡◌, ◌⊎◌, ◌≤◌, ◌<◌, ◌-◌, ◌^◌, None, List, [], ◌++◌, map, All, IfOk, IfErr, IfSome, IfNone, OnOk, OnErr, true, false, not, is_some, is_err, IsTrue, length, if◌then◌else◌};
 ghost use Rattle.std.specs.Option.{unwrap_or};
 ghost use Rattle.std.specs.FinMap.{get};
 ghost use Rattle.dired_text.specs.Paths.{Names};
 ghost use Rattle.dired_text.specs.Counts.{raised, Rose};
 ghost use Rattle.tree_core.specs.FileTree.{CanDo, next_after, root_tree};
-ghost use Rattle.tree_core.specs.History.{History, Began, IsSound, Changes, FailedAt, current_tree, next_number as number_told};
+ghost use Rattle.tree_core.specs.History.{History, Began, Then, IsSound, Changes, FailedAt, current_tree, next_number as number_told, is_sync as is_sync_call, crash_images, IsCrashState};
 ghost use Rattle.tree_core.specs.Faults.{HasCause, with_fault};
-ghost use Rattle.tree_core.specs.Mem.{tree_of, history_of, CouldDo, scheduled, NeedsMore};
+ghost use Rattle.tree_core.specs.Mem.{tree_of, history_of, CouldDo, scheduled, NeedsMore, images_at};
 ghost use Rattle.tree_core.specs.Built.{built, next_of, first_bad, Refuses};
 ghost use Rattle.tree_core.specs.Allowed.{IsSound-prop, CouldDo-prop};
 
 use crate::apply::{Attempt, do_change};
 use crate::build::rows_of;
-use crate::rows::{Row, copy_rows, node_of};
+use crate::replay::Replay;
+use crate::rows::{Row, copy_rows, emptied_rows, node_of};
 use crate::{BuildFault, CallName, Change, Entry, Faults, Kind, Tree};
 use dired_text::{Failed, Memory, Path};
 use std::alloc::Global;
@@ -42,6 +43,7 @@ pub struct MemTree {
     ghost sound: { IsSound (history_of began.items first_number attempts.items) } by { IsSound-prop (history_of began.items first_number attempts.items) },
     ghost reads: { (q : Names) → get (tree_of rows.items) q ≡ get (current_tree (history_of began.items first_number attempts.items)) q },
     ghost numbered: { next_number ≡ number_told (history_of began.items first_number attempts.items) },
+    ghost fits: { next_number < 2 ^ 64 },
     ghost counted: { before_fault ≤ length attempts.items },
 }
 
@@ -93,8 +95,15 @@ fn number_after(change: &Change, next: u64, is_done: bool) -> Option<u64>
     }
 }
 
+// Whether the call is a sync.
+fn is_sync(change: &Change) -> bool
+    ensures { result ≡ is_sync_call change.now }
+{
+    matches!(change, Change::Sync)
+}
+
 impl MemTree {
-    ghost use Rattle.tree_core.specs.MemHistory.{history_told, before_failed_told, fate_told, look_fails_told};
+    ghost use Rattle.tree_core.specs.MemHistory.{history_told, before_failed_told, fate_told, look_fails_told, told, untouched, SameSchedule};
 
     /// The tree of the entries, whose root has the mode 0o755. Nothing is pending, and no call is to fail.
     ///
@@ -105,13 +114,17 @@ impl MemTree {
     pub fn new(alloc: Global, entries: &[Entry]) -> Result<Self, BuildFault>
         ensures good { IfOk result (λ m. first_bad [] entries.now ≡ None) }
         ensures bad { IfErr result (λ fault. Refuses entries.now fault) }
-        ensures history { IfOk result (λ m. history_told m ≡ Began (built root_tree entries.now) (next_of entries.now)) }
-        ensures faults { IfOk result (λ m. m.faults ≡ record { count = 0; last = None; last_before = None }) }
-        ensures short { IfOk result (λ m. m.short ≡ 0) }
-        ensures changes { IfOk result (λ m. m.failing_changes.items ≡ []) }
-        ensures looks { IfOk result (λ m. m.failing_looks.items ≡ []) }
+        ensures told { IfOk result (λ m. told m ≡ untouched (Began (built root_tree entries.now) (next_of entries.now))) }
     {
         let (rows, first_number) = rows_of(alloc, entries)?;
+        Ok(MemTree::began(alloc, rows, first_number)?)
+    }
+
+    // The tree of these rows, with nothing pending.
+    fn began(alloc: Global, rows: Vec<Row>, first_number: u64) -> Result<Self, Memory>
+        requires { IsSound (Began (tree_of rows.items) first_number) }
+        ensures { IfOk result (λ m. told m ≡ untouched (Began (tree_of rows.items) first_number)) }
+    {
         let began = copy_rows(alloc, &rows)?;
         Ok(MemTree {
             alloc,
@@ -176,12 +189,54 @@ impl MemTree {
         self.short
     }
 
+    // Adds the tree, with the files written since the last sync whole and with them empty.
+    fn push_images(alloc: Global, images: &mut Vec<MemTree>, replay: &Replay) -> Result<(), Memory>
+        requires { IsSound (Began (tree_of replay.now.rows.items) replay.now.next_number) }
+        ensures { OnOk result (map told images.new.items ≡ map told images.old.items ++ map untouched (images_at (tree_of replay.now.rows.items) replay.now.next_number replay.now.written.items)) }
+    {
+        let whole = copy_rows(alloc, &replay.rows)?;
+        images.push(MemTree::began(alloc, whole, replay.next_number)?)?;
+        let empty = emptied_rows(alloc, &replay.rows, &replay.written)?;
+        images.push(MemTree::began(alloc, empty, replay.next_number)?)?;
+        Ok(())
+    }
+
+    /// Trees that a crash may leave now, oldest first: every tree since the last sync, up to the one that reads, each once
+    /// with the files written since that sync whole and once with them empty. Of an image nothing is pending and no call
+    /// is to fail, and it has the next file number of its tree.
+    pub fn images(&self) -> Result<Vec<MemTree>, Memory>
+        ensures images { IfOk result (λ images. map told images.items ≡ map untouched (crash_images (history_told self.now))) }
+        ensures crash { IfOk result (λ images. All (λ m. IsCrashState (history_told self.now) (current_tree (history_told m))) images.items) }
+    {
+        let mut replay = Replay::new(self.alloc, &self.began, self.first_number)?;
+        let mut images = Vec::new(self.alloc);
+        MemTree::push_images(self.alloc, &mut images, &replay)?;
+        for attempt in &self.attempts {
+            if attempt.is_done {
+                replay.play(self.alloc, &attempt.change)?;
+                if is_sync(&attempt.change) {
+                    images.clear();
+                }
+                MemTree::push_images(self.alloc, &mut images, &replay)?;
+            }
+        }
+        Ok(images)
+    }
+
+    /// Its failed calls.
+    pub fn faults(&self) -> Faults
+        ensures { result ≡ self.now.faults }
+    {
+        self.faults
+    }
+
     // Fails before anything is done.
     fn give_up(&mut self, call: CallName) -> Failed
         ensures history { history_told self.new ≡ history_told self.old }
         ensures before_failed { before_failed_told self.new ≡ current_tree (history_told self.old) }
         ensures cause { self.new.faults ≡ with_fault call self.old.faults }
         ensures short { self.new.short ≡ self.old.short }
+        ensures schedule { SameSchedule self.old self.new }
     {
         self.before_fault = self.attempts.len();
         self.faults.note(call);
@@ -194,6 +249,7 @@ impl MemTree {
         ensures before_failed { before_failed_told self.new ≡ current_tree (history_told self.old) }
         ensures cause { self.new.faults ≡ with_fault call self.old.faults }
         ensures short { self.new.short ≡ raised self.old.short }
+        ensures schedule { SameSchedule self.old self.new }
     {
         self.short = self.short.saturating_add(1);
         self.give_up(call)
@@ -226,6 +282,9 @@ impl MemTree {
         ensures history { Changes change (history_told self.old) (history_told self.new) result }
         ensures before_failed { FailedAt result (history_told self.old) (before_failed_told self.old) (before_failed_told self.new) }
         ensures cause { HasCause call self.old.faults self.new.faults result }
+        ensures scheduled { fate.is_ok ≡ false → IsTrue (is_err result) }
+        ensures done { (Rose self.old.short self.new.short ⊎ NeedsMore change (number_told (history_told self.old))) ⊎ (history_told self.new ≡ (if fate.is_done then Then (history_told self.old) change else history_told self.old)) }
+        ensures schedule { SameSchedule self.old self.new }
         ensures may_fail { OnErr result ((fate.is_ok ≡ false) ⊎ (Rose self.old.short self.new.short ⊎ NeedsMore change (number_told (history_told self.old)))) }
     {
         let before = self.attempts.len();

@@ -1,13 +1,15 @@
 // The rows of a tree in memory, in any order.
-ghost use Rattle.std.specs.Prelude.{◌≡◌, ◌++◌, [], ◌∷◌, IfOk, OnOk, OnErr, filter, map, not, if◌then◌else◌};
+ghost use Rattle.std.specs.Prelude.{◌≡◌, ◌++◌, [], ◌∷◌, IfOk, OnOk, OnErr, filter, map, not, if◌then◌else◌, ◌==◌};
 ghost use Rattle.std.specs.Option.{option_map};
 ghost use Rattle.std.specs.FinMap.{get};
+ghost use Rattle.std.specs.List.{list_any};
 ghost use Rattle.dired_text.specs.Paths.{rest_below as rest_below_of};
 ghost use Rattle.tree_core.specs.FileTree.{moved, moved_entry, with_file_mode};
+ghost use Rattle.tree_core.specs.History.{with_bytes};
 ghost use Rattle.tree_core.specs.Mem.{pairs, tree_of, is_same_path};
 
 use crate::Node;
-use dired_text::{Memory, Name, Path, rest_below};
+use dired_text::{Bytes, Memory, Name, Path, rest_below};
 use std::alloc::Global;
 
 /// An entry of a tree in memory. A rename may carry it to names that are too long for a `Path`.
@@ -175,6 +177,51 @@ pub fn with_dir_mode(
         all.push(Row {
             names: copy_names(alloc, &row.names)?,
             node,
+            mtime: row.mtime,
+        })?;
+    }
+    Ok(all)
+}
+
+// An equal node, but empty where it is a file of one of these numbers.
+fn emptied(alloc: Global, node: &Node, numbers: &[u64]) -> Result<Node, Memory>
+    ensures { IfOk result (λ n. n ≡ with_bytes numbers.now (λ number. []) node.now) }
+{
+    Ok(match node {
+        Node::Dir(mode) => Node::Dir(*mode),
+        Node::Link(target) => Node::Link(target.copy()?),
+        Node::File {
+            number,
+            bytes,
+            mode,
+        } => Node::File {
+            number: *number,
+            bytes: if is_among(numbers, *number) {
+                Bytes::from_vec(Vec::new(alloc))
+            } else {
+                bytes.copy()?
+            },
+            mode: *mode,
+        },
+    })
+}
+
+// Whether a number is one of these.
+fn is_among(numbers: &[u64], number: u64) -> bool
+    ensures { result ≡ list_any (λ n. n == number) numbers.now }
+{
+    numbers.iter().any(|n| *n == number)
+}
+
+/// Copies the rows, with the files of these numbers empty.
+pub fn emptied_rows(alloc: Global, rows: &[Row], numbers: &[u64]) -> Result<Vec<Row>, Memory>
+    ensures { IfOk result (λ v. pairs v.items ≡ map (λ e. (e.0, with_bytes numbers.now (λ number. []) e.1)) (pairs rows.now)) }
+{
+    let mut all = Vec::with_capacity(alloc, rows.len())?;
+    for row in rows {
+        all.push(Row {
+            names: copy_names(alloc, &row.names)?,
+            node: emptied(alloc, &row.node, numbers)?,
             mtime: row.mtime,
         })?;
     }
