@@ -48,6 +48,10 @@ cause_text cause.LineCount = codes "LineCount"
 cause_text cause.Fixed = codes "Fixed"
 cause_text cause.BadName = codes "BadName"
 
+-- what is said of a line
+abbrev pub line_text : ℕ → List ℕ → List ℕ
+line_text line said = codes "dired: line " ++ decimal line ++ codes ": " ++ said ++ codes "\n"
+
 -- the text of a status, with names escaped; empty for one that has none
 abbrev pub text_of : Status → List ℕ
 text_of Done = []
@@ -57,10 +61,10 @@ text_of (ReadFault name) = codes "dired: cannot read " ++ escaped false name ++ 
 text_of (TreeFault first) = codes "dired: " ++ call_text first ++ codes " failed; nothing was decided\n"
 text_of (WriteFault held) = []
 text_of (Missing name) = codes "dired: no such input: " ++ escaped false name ++ codes "\n"
-text_of (Faulty line cause) = codes "dired: line " ++ decimal line ++ codes ": " ++ cause_text cause ++ codes "\n"
-text_of (Stale line) = codes "dired: line " ++ decimal line ++ codes ": the file is not as shown\n"
+text_of (Faulty line cause) = line_text line (cause_text cause)
+text_of (Stale line) = line_text line (codes "the file is not as shown")
 text_of (TooLarge what number) = codes "dired: too large: " ++ counted_text what ++ codes " " ++ decimal number ++ codes "\n"
-text_of (NotBuilt line) = codes "dired: line " ++ decimal line ++ codes ": not built yet\n"
+text_of (NotBuilt line) = line_text line (codes "not built yet")
 
 -- whether the text is written without memory
 abbrev pub has_fixed_text : Status → Bool

@@ -1,7 +1,7 @@
 // What is read.
-ghost use Rattle.std.specs.Prelude.{◌≡◌, MatchResult, IfErr, Some, Ok, Err};
+ghost use Rattle.std.specs.Prelude.{◌≡◌, ◌≤◌, MatchResult, IfOk, IfErr, Some, Ok, Err, length};
 ghost use Rattle.dired_text.specs.Counts.{raised};
-ghost use Rattle.dired_cli.specs.Inputs.{input_of};
+ghost use Rattle.dired_cli.specs.Inputs.{input_of, max_buffer_bytes};
 ghost use Rattle.dired_cli.specs.Statuses.{ByCause, IsRefusal};
 
 use crate::{Counted, Status};
@@ -16,6 +16,7 @@ pub const MAX_BUFFER_BYTES: u64 = 33_554_432;
 /// # Errors
 /// `Missing`, `TooLarge`, `ReadFault`, or want of memory.
 pub fn read_input<H: Shelf>(alloc: Global, shelf: &mut H, name: &str) -> Result<Bytes, Status>
+    ensures limit { IfOk result (λ bytes. length bytes ≤ max_buffer_bytes) }
     ensures read { H.Tells → MatchResult result (λ bytes. input_of (H.files shelf.old) name.now ≡ Ok bytes)
         (λ status. ByCause status (Unit {0}) (λ _. ⊥) (λ failed. H.last_failed shelf.new ≡ Some failed) (input_of (H.files shelf.old) name.now ≡ Err status)) }
     ensures files { H.Tells → H.files shelf.new ≡ H.files shelf.old }

@@ -1,4 +1,6 @@
 // Named inputs: files, and `-` for standard input. They tell nothing of what they contain.
+ghost use Rattle.std.specs.Prelude.{◌≤◌, IfOk, IfSome, vec_len};
+
 use dired_text::{Bytes, Shelf, ShelfEnd};
 use std::alloc::Global;
 use std::fs;
@@ -57,7 +59,9 @@ fn read_named<R: Files + Input>(
     alloc: Global,
     name: &str,
     limit: u64,
-) -> io::Result<Option<Vec<u8>>> {
+) -> io::Result<Option<Vec<u8>>>
+    ensures { IfOk result (λ found. IfSome found (λ bytes. vec_len bytes ≤ limit)) }
+{
     if name == "-" {
         read_all(alloc, &mut rt.reader(), limit)
     } else {
@@ -66,7 +70,9 @@ fn read_named<R: Files + Input>(
 }
 
 // All bytes, or None where there are more than the limit.
-fn read_all<S: Read>(alloc: Global, source: &mut S, limit: u64) -> io::Result<Option<Vec<u8>>> {
+fn read_all<S: Read>(alloc: Global, source: &mut S, limit: u64) -> io::Result<Option<Vec<u8>>>
+    ensures { IfOk result (λ found. IfSome found (λ bytes. vec_len bytes ≤ limit)) }
+{
     let mut bytes = Vec::new(alloc);
     let mut chunk = vec![in alloc; 0; CHUNK]?;
     for _ in 0..u64::MAX {

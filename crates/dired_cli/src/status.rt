@@ -1,7 +1,7 @@
 // What a run answers.
 ghost use Rattle.std.specs.Prelude.{◌≡◌, IfOk};
 ghost use Rattle.std.specs.String.{string_bytes};
-ghost use Rattle.dired_cli.specs.Statuses.{call_text as call_text_of, cause_text as cause_text_of};
+ghost use Rattle.dired_cli.specs.Statuses.{call_text as call_text_of, cause_text as cause_text_of, line_text as line_text_of};
 
 use dired_text::{Memory, Text, escape};
 use std::alloc::Global;
@@ -100,18 +100,12 @@ impl Status {
                 let name = escape(alloc, name.as_str(), false)?;
                 Ok(format!(in alloc; "dired: no such input: {}\n", name.as_str())?)
             }
-            Status::Faulty { line, cause } => {
-                Ok(format!(in alloc; "dired: line {line}: {}\n", cause_text(*cause))?)
-            }
-            Status::Stale { line } => {
-                Ok(format!(in alloc; "dired: line {line}: the file is not as shown\n")?)
-            }
+            Status::Faulty { line, cause } => line_text(alloc, *line, cause_text(*cause)),
+            Status::Stale { line } => line_text(alloc, *line, "the file is not as shown"),
             Status::TooLarge { what, number } => {
                 Ok(format!(in alloc; "dired: too large: {} {number}\n", what.name())?)
             }
-            Status::NotBuilt { line } => {
-                Ok(format!(in alloc; "dired: line {line}: not built yet\n")?)
-            }
+            Status::NotBuilt { line } => line_text(alloc, *line, "not built yet"),
         }
     }
 }
@@ -142,6 +136,13 @@ pub fn call_text(call: CallName) -> &'static str
         CallName::RemoveDir => "remove_dir",
         CallName::Sync => "sync",
     }
+}
+
+// What is said of a line.
+fn line_text(alloc: Global, line: u32, said: &str) -> Result<String, Memory>
+    ensures { IfOk result (λ t. string_bytes t ≡ line_text_of line said.now) }
+{
+    Ok(format!(in alloc; "dired: line {line}: {said}\n")?)
 }
 
 // The name of a cause.
