@@ -3,7 +3,6 @@ use Rattle.std.specs.Prelude.{ℕ, ◌+◌, ◌==◌, Bool, false, ◌&&◌, nat
 use Rattle.std.specs.List.{list_all}
 use Rattle.std.specs.Str.{bytes_eq}
 use Rattle.tree_core.specs.declared.node.Kind.TheVariants as kind
-use Rattle.tree_core.specs.declared.edit.Shown.{Shown}
 use Rattle.listing_text.specs.declared.plain.Plain.{Plain}
 use Rattle.listing_text.specs.PlainLines.{plain_line}
 use Rattle.wdired_buffer.specs.declared.faults.BufferFault.{BufferFault}

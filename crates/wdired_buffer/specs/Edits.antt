@@ -1,5 +1,5 @@
 -- What an edited text of a listing asks for, line by line.
-use Rattle.std.specs.Prelude.{ℕ, ◌+◌, ◌==◌, Bool, not, ◌||◌, min, List, [], ◌∷◌, length, take, drop, Some, None, Result, Ok, Err, if◌then◌else◌}
+use Rattle.std.specs.Prelude.{ℕ, ◌+◌, ◌==◌, not, ◌||◌, min, List, [], ◌∷◌, length, take, drop, Some, None, Result, Ok, Err, if◌then◌else◌}
 use Rattle.std.specs.List.{list_all}
 use Rattle.std.specs.Str.{bytes_eq, is_utf8}
 use Rattle.std.specs.Cmp.Lexicographic.{pointwise}

@@ -13,9 +13,6 @@ const FRONT: &str = "  -rw-r--r-- 1 u g 0 1970-01-01 00:00 ";
 const BEFORE: &str =
     "dired 1\n  .:\n  total 2\n  -rw-r--r-- 1 u g 0 1970-01-01 00:00 a\n  -rw-r--r-- 1 u g 0 1970-01-01 00:00 b\n";
 
-// For each edit the line, the source and the new path, or the fault.
-type Asked<'a> = Result<&'a [(u32, &'a str, &'a str)], EditsFault>;
-
 fn read(rt: &impl Abort, alloc: Global, text: &str) -> Result<Vec<BufferLine>, BufferFault> {
     assert!(rt; text.len() < 4294967295);
     read_buffer(alloc, text.as_bytes())
@@ -28,23 +25,32 @@ fn edited(rt: &impl Abort, alloc: Global, before: &str, after: &str) -> Result<E
     edits(alloc, &lines, after.as_bytes())
 }
 
-// What an edited text of BEFORE asks for.
-fn check(rt: &impl Abort, alloc: Global, after: &str, expected: Asked) -> Result<(), Fail> {
+// Compares what an edited text of BEFORE asks for: for each edit the line, the source and the new path.
+fn check(
+    rt: &impl Abort,
+    alloc: Global,
+    after: &str,
+    expected: Result<&str, EditsFault>,
+) -> Result<(), Fail> {
     match (edited(rt, alloc, BEFORE, after), expected) {
         (Ok(found), Ok(rows)) => {
-            assert_eq!(rt; found.emptied.len(), 0);
-            assert_eq!(rt; found.edits.len(), rows.len(), "at {after}");
-            for (edit, (line, source, path)) in found.edits.iter().zip(rows.iter()) {
-                assert_eq!(rt; edit.line, *line, "at {after}");
-                assert_eq!(rt; edit.source.text()?.as_str(), *source);
-                assert_eq!(rt; edit.was.mode, 0o644);
-                assert!(rt; edit.target.is_none() && edit.mode.is_none());
+            let mut shown = String::new(alloc);
+            for edit in &found.edits {
                 let Some(to) = &edit.to else {
                     assert!(rt; false, "no path at {after}");
                     return Ok(());
                 };
-                assert_eq!(rt; to.text()?.as_str(), *path);
+                assert!(rt; edit.target.is_none() && edit.mode.is_none() && edit.was.mode == 0o644);
+                let row = format!(in alloc;
+                    "{} {} {};",
+                    edit.line,
+                    edit.source.text()?.as_str(),
+                    to.text()?.as_str()
+                )?;
+                shown.push_str(&row)?;
             }
+            assert_eq!(rt; shown.as_str(), rows, "at {after}");
+            assert_eq!(rt; found.emptied.len(), 0);
         }
         (Err(fault), Err(wanted)) => assert_eq!(rt; fault, wanted, "at {after}"),
         _ => assert!(rt; false, "at {after}"),
@@ -52,11 +58,7 @@ fn check(rt: &impl Abort, alloc: Global, after: &str, expected: Asked) -> Result
     Ok(())
 }
 
-fn asked<'a>(rows: &'a [(u32, &'a str, &'a str)]) -> Asked<'a> {
-    Ok(rows)
-}
-
-fn faulty<'a>(line: u32, cause: LineCause) -> Asked<'a> {
+fn faulty(line: u32, cause: LineCause) -> Result<&'static str, EditsFault> {
     Err(EditsFault::Faulty { line, cause })
 }
 
@@ -113,20 +115,17 @@ fn reads_buffers(rt: HostRuntime) -> Result<(), Fail> {
 
 #[test]
 fn finds_edits(rt: HostRuntime) -> Result<(), Fail> {
-    let long = [b'x'; 256];
-    let long_name = str::from_utf8(&long)?;
     let names = [
-        ("a", "b", asked(&[])),
-        ("c", "b", asked(&[(4, "a", "c")])),
-        ("b", "a", asked(&[(4, "a", "b"), (5, "b", "a")])),
-        ("./a", "b", asked(&[])),
-        ("x/y", "b", asked(&[(4, "a", "x/y")])),
+        ("a", "b", Ok("")),
+        ("c", "b", Ok("4 a c;")),
+        ("b", "a", Ok("4 a b;5 b a;")),
+        ("./a", "b", Ok("")),
+        ("x/y", "b", Ok("4 a x/y;")),
         ("", "b", Err(EditsFault::NotBuilt(4))),
         ("a\\", "b", Err(EditsFault::NotBuilt(4))),
         ("a\u{7f}", "b", Err(EditsFault::NotBuilt(4))),
         ("a/..", "b", faulty(4, LineCause::BadName)),
         ("/a", "b", faulty(4, LineCause::BadName)),
-        ("a", long_name, faulty(5, LineCause::BadName)),
         ("..", "", faulty(4, LineCause::BadName)),
         ("", "..", Err(EditsFault::NotBuilt(4))),
     ];
@@ -137,7 +136,7 @@ fn finds_edits(rt: HostRuntime) -> Result<(), Fail> {
     let texts = [
         (
             "dired 1\n  .:\n  total 2\n  -rw-r--r-- 1 u g 0 1970-01-01 00:00 a\n  -rw-r--r-- 1 u g 0 1970-01-01 00:00 c",
-            asked(&[(5, "b", "c")]),
+            Ok("5 b c;"),
         ),
         (
             "dired 1\n  .:\n  total 2\n  -rw-r--r-- 1 u g 0 1970-01-01 00:00 \n  -rw-r--r-- 1 u g 0 1970-01-01 00:00 b\n\n",
@@ -168,6 +167,10 @@ fn finds_edits(rt: HostRuntime) -> Result<(), Fail> {
     for (after, expected) in texts {
         check(&rt, rt.alloc(), after, expected)?;
     }
+    let long = [b'x'; 256];
+    let name = str::from_utf8(&long)?;
+    let after = format!(in rt.alloc(); "{HEAD}{FRONT}{name}\n{FRONT}b\n")?;
+    check(&rt, rt.alloc(), &after, faulty(4, LineCause::BadName))?;
     let open = BEFORE.strip_suffix('\n').unwrap_or(BEFORE);
     let found = edited(&rt, rt.alloc(), open, BEFORE)?;
     assert_eq!(rt; found.edits.len(), 0);

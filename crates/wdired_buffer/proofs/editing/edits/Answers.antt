@@ -1,7 +1,7 @@
-use Rattle.std.proofs.Common.{◌≡◌, ◌∙◌, sym, ap, ◌<◌, ◌+◌, ◌∷◌, ◌++◌, drop, length, append_assoc, arith, rules}
+use Rattle.std.proofs.Common.{◌≡◌, ◌∙◌, sym, ap, ◌<◌, ◌+◌, ◌∷◌, ◌++◌, drop, length, arith, rules}
 use Rattle.std.specs.Option.{option_to_list}
 use Rattle.std.proofs.lemmas.Grind.{common_steps}
-use Rattle.std.proofs.lemmas.List.{append-nil, drop_more}
+use Rattle.std.proofs.lemmas.List.{drop_more}
 use Rattle.wdired_buffer.specs.declared.line.BufferLine.{BufferLine}
 use Rattle.wdired_buffer.specs.Lines.{lines, in_front}
 use Rattle.wdired_buffer.specs.Edits.{changes_from}

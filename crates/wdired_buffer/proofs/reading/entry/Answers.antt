@@ -1,4 +1,4 @@
-use Rattle.std.proofs.Common.{◌≡◌, ◌∙◌, ap, drop, true, arith}
+use Rattle.std.proofs.Common.{◌≡◌, ◌∙◌, ap, true, arith}
 use Rattle.std.proofs.lemmas.Grind.{common_steps}
 use Rattle.dired_text.specs.Paths.{is_name}
 use Rattle.wdired_buffer.proofs.LineLemmas.{name_at_end}

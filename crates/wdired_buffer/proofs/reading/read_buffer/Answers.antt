@@ -1,8 +1,7 @@
-use Rattle.std.proofs.Common.{◌≡◌, ◌⊎◌, inl, inr, ◌∙◌, sym, ap, ◌+◌, [], ◌∷◌, ◌++◌, ◌<◌, length, Ok, Err, arith, rules}
-use Rattle.std.proofs.lemmas.List.{append-nil}
+use Rattle.std.proofs.Common.{◌≡◌, inl, inr, ◌∙◌, sym, ap, ◌+◌, [], ◌∷◌, ◌++◌, ◌<◌, length, arith, rules}
 use Rattle.std.proofs.lemmas.Result.{err_from_is_err_and}
 use Rattle.wdired_buffer.specs.Lines.{lines, in_front}
-use Rattle.wdired_buffer.specs.Buffer.{buffer_of, lines_from, line_of}
+use Rattle.wdired_buffer.specs.Buffer.{buffer_of, lines_from}
 use Rattle.wdired_buffer.proofs.LineLemmas.{in_front-nil, line_taken, line_refused, lines_short, lines_done}
 use Rattle.wdired_buffer.proofs.reading.read_buffer.Goals as goal
 
