@@ -1,5 +1,5 @@
 -- Each changing call that is lawful leaves a tree.
-use Rattle.std.proofs.Common.{lit≤, ◌≡◌, ◌≢◌, ◌⊎◌, inl, inr, ⊎_elim, ℕ, ◌+◌, ◌<◌, ◌≤◌, Bool, true, false, cond, List, [], ◌∷◌, ◌++◌, length, refl, sym, ◌∙◌, ap, subst, arith, length-append, Option, Some, None, is_some, IsTrue, if◌then◌else◌, ◌==◌}
+use Rattle.std.proofs.Common.{lit≤, ◌≡◌, ◌≢◌, ⊎_elim, ℕ, ◌+◌, ◌<◌, Bool, true, false, cond, List, [], ◌∷◌, ◌++◌, refl, sym, ◌∙◌, ap, subst, arith, Option, Some, None, is_some, IsTrue, if◌then◌else◌, ◌==◌}
 use Rattle.std.proofs.lemmas.Bool.{cond-true, cond-false, cases_Bool}
 use Rattle.std.proofs.lemmas.Option.{same_Some}
 use Rattle.std.specs.FinMap.{get, insert, remove, empty, get-insert, get-remove, get-empty}
@@ -12,7 +12,7 @@ use Rattle.tree_core.specs.declared.node.Change.TheVariants.{MakeDir, MakeLink, 
 use Rattle.tree_core.specs.History.{History, Began, Then, IsSound, current_tree, next_number, with_bytes}
 use Rattle.std.specs.Option.{option_map}
 use Rattle.std.specs.List.{list_any}
-use Rattle.tree_core.specs.FileTree.{FileTree, IsTree, IsMode, IsLawful, IsDir, IsAbsent, Stands, CanMake, CanDo, IsFile, is_dir_node, is_file_node, with_nodes, with_file_mode, set_mode_of, insert_same, done, next_after, root_tree}
+use Rattle.tree_core.specs.FileTree.{FileTree, IsTree, IsMode, IsLawful, IsDir, IsAbsent, Stands, CanMake, CanDo, is_dir_node, with_nodes, with_file_mode, set_mode_of, insert_same, done, root_tree}
 use Rattle.tree_core.proofs.TreeLemmas.{tie, tie-other, dir_stands, absent_not, none_of, parent-push, get-with_nodes, renamed_tree, came_from}
 
 abbrev pub IsDirNode : Option Node → Type 0

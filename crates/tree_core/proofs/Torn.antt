@@ -1,13 +1,12 @@
 -- What a crash makes of a file that was written since the last sync.
-use Rattle.std.proofs.Common.{◌≡◌, ◌≢◌, ℕ, ◌+◌, ◌<◌, Bool, true, false, cond, List, [], ◌∷◌, refl, sym, ◌∙◌, ap, subst, arith, Option, Some, None, ◌==◌, ◌||◌, if◌then◌else◌}
-use Rattle.std.specs.List.{list_any}
+use Rattle.std.proofs.Common.{◌≡◌, ◌≢◌, ℕ, Bool, true, false, cond, List, [], ◌∷◌, refl, sym, ◌∙◌, ap, arith, Option, Some, None, ◌==◌, ◌||◌, if◌then◌else◌}
 use Rattle.std.specs.Option.{option_map}
 use Rattle.std.specs.FinMap.{get, insert}
 use Rattle.std.proofs.lemmas.Bool.{ne_eqb, eq-eqb}
 use Rattle.dired_text.specs.Paths.{Names}
 use Rattle.tree_core.specs.declared.node.Node.{Node}
 use Rattle.tree_core.specs.declared.node.Node.TheVariants.{Dir, Link, File}
-use Rattle.tree_core.specs.FileTree.{FileTree, with_nodes}
+use Rattle.tree_core.specs.FileTree.{FileTree}
 use Rattle.tree_core.specs.History.{History, IsSound, IsTorn, next_number, current_tree, with_bytes}
 use Rattle.tree_core.proofs.TreeLemmas.{get-with_nodes, same_tree, tie}
 use Rattle.tree_core.proofs.Sound.{shows}

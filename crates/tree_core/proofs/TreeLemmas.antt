@@ -1,6 +1,6 @@
 -- What the operations on trees compute to at a path.
-use Rattle.std.proofs.Common.{◌≡◌, ◌⊎◌, inl, inr, ℕ, Bool, true, false, cond, List, [], ◌∷◌, ◌++◌, map, length, append_assoc, length-append, refl, sym, ◌∙◌, ap, subst, arith, Option, Some, None, ◌+◌, ◌-◌, ◌≢◌, take, is_some, IsTrue}
-use Rattle.std.specs.FinMap.{FinMap, get, find, from_entries, entries, get-entries, get-from_entries, same_map}
+use Rattle.std.proofs.Common.{◌≡◌, ℕ, Bool, true, false, cond, List, [], ◌∷◌, ◌++◌, map, length, append_assoc, length-append, refl, sym, ◌∙◌, ap, subst, arith, Option, Some, None, ◌+◌, ◌-◌, is_some, IsTrue}
+use Rattle.std.specs.FinMap.{get, find, from_entries, entries, get-entries, get-from_entries, same_map}
 use Rattle.std.specs.Option.{option_map}
 use Rattle.std.specs.Ordering.{eq_by_cmp}
 use Rattle.std.proofs.lemmas.List.{append-nil, take_at, same_from_push}
@@ -10,7 +10,7 @@ use Rattle.std.proofs.lemmas.Option.{none-some}
 use Rattle.dired_text.specs.Paths.{Names, path_cmp, rest_below, parent}
 use Rattle.dired_text.proofs.PathLemmas.{path_cmp-total, path_cmp-exact, path_decides, rest_below-append, rest_below-some, append_cancel}
 use Rattle.tree_core.specs.declared.node.Node.{Node}
-use Rattle.tree_core.specs.declared.node.Node.TheVariants.{Dir, Link, File}
+use Rattle.tree_core.specs.declared.node.Node.TheVariants.{File}
 use Rattle.tree_core.specs.FileTree.{FileTree, with_nodes, moved, moved_rest, renamed, moved_entry, after_rename, CanRename, IsTree, IsDir, Stands, IsAbsent, is_dir_node}
 
 abbrev pub Entries : Type 0

@@ -1,5 +1,5 @@
 -- How often a tree has failed, and in which calls.
-use Rattle.std.specs.Prelude.{◌≡◌, Option, Some, Result, MatchResult}
+use Rattle.std.specs.Prelude.{◌≡◌, Some, Result, MatchResult}
 use Rattle.dired_text.specs.Counts.{raised, Rose, Stayed}
 use Rattle.dired_text.specs.declared.text.Failed.{Failed}
 use Rattle.tree_core.specs.declared.node.CallName.{CallName}

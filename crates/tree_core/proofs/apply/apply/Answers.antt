@@ -1,6 +1,5 @@
-use Rattle.std.proofs.Common.{◌≡◌, refl, sym, ◌∙◌, ap, subst, ⊎_elim}
+use Rattle.std.proofs.Common.{refl, ◌∙◌, ap, subst, ⊎_elim}
 use Rattle.std.specs.FinMap.{get}
-use Rattle.tree_core.specs.declared.node.Node.{Node}
 use Rattle.tree_core.specs.declared.node.Node.TheVariants.{Link, File}
 use Rattle.tree_core.specs.FileTree.{CanDo, done}
 use Rattle.tree_core.specs.Mem.{tree_of}

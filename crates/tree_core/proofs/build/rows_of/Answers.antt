@@ -1,4 +1,4 @@
-use Rattle.std.proofs.Common.{◌≡◌, ◌++◌, ◌∷◌, [], ◌∙◌, ap, max}
+use Rattle.std.proofs.Common.{◌++◌, ◌∷◌, [], ◌∙◌, ap, max}
 use Rattle.tree_core.specs.Mem.{pairs}
 use Rattle.tree_core.proofs.BuiltLemmas.{builds_root, builds_next}
 use Rattle.tree_core.proofs.build.rows_of.Goals as goal

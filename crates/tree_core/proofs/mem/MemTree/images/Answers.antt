@@ -1,4 +1,4 @@
-use Rattle.std.proofs.Common.{◌≡◌, [], refl, sym, ◌∙◌, ap, subst, arith}
+use Rattle.std.proofs.Common.{refl, ◌∙◌, ap, arith}
 use Rattle.std.specs.FinMap.{from_entries}
 use Rattle.tree_core.specs.MemHistory.{history_told}
 use Rattle.tree_core.specs.Mem.{pairs, tree_of}
