@@ -10,6 +10,8 @@ mod real_tree;
 mod reports;
 mod requests;
 mod status;
+#[cfg(test)]
+mod tests;
 mod words;
 
 pub use program::run;

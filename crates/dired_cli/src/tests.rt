@@ -1,0 +1,204 @@
+ghost use Rattle.std.specs.Prelude.{IsTrue};
+ghost use Rattle.tree_core.specs.History.{IsDurable};
+
+use crate::{Status, run};
+use dired_text::{Bytes, MemShelf, MemSink, Memory, Name, Path, Shelf, Sink, Text};
+use std::alloc::Global;
+use std::test::Fail;
+use tree_core::{Entry, Kind, MemTree, Node, Tree};
+
+const BEFORE: &str = "dired 1\n  .:\n  total 2\n  -rw-r--r-- 1 u g 0 1970-01-01 00:00 a\n  -rw-r--r-- 1 u g 0 1970-01-01 00:00 b\n";
+const RENAMED: &str = "dired 1\n  .:\n  total 2\n  -rw-r--r-- 1 u g 0 1970-01-01 00:00 c\n  -rw-r--r-- 1 u g 0 1970-01-01 00:00 b\n";
+const ONE: &str = "renamed 1, retargeted 0, modes 0, replaced 0, made 0, flagged 0\n";
+const NONE: &str = "renamed 0, retargeted 0, modes 0, replaced 0, made 0, flagged 0\n";
+
+// The path of one name.
+fn path_of(alloc: Global, name: &str) -> Result<Path, Memory> {
+    let mut names = Vec::new(alloc);
+    if let Some(name) = Name::new(alloc, name)? {
+        names.push(name)?;
+    }
+    match Path::join(alloc, &names)? {
+        Some(path) => Ok(path),
+        None => Ok(Path::root(alloc)),
+    }
+}
+
+// A tree of empty files with these names, whose first one has this mode and the others 0o644.
+fn tree_of(alloc: Global, names: &[&str], mode: u16) -> Result<MemTree, Memory> {
+    let mut entries = Vec::new(alloc);
+    let mut number = 0u64;
+    let mut mode = mode;
+    for name in names {
+        entries.push(Entry {
+            path: path_of(alloc, name)?,
+            node: Node::File {
+                number,
+                bytes: Bytes::copy_of(alloc, b"")?,
+                mode,
+            },
+            mtime: 0,
+        })?;
+        number = number.saturating_add(1);
+        mode = 0o644;
+    }
+    match MemTree::new(alloc, &entries) {
+        Ok(tree) => Ok(tree),
+        Err(_) => Err(Memory),
+    }
+}
+
+// The inputs `B` and `A`, of which the reads of `fail` fail.
+fn shelf_of(alloc: Global, before: &str, after: &str, fail: &[u64]) -> Result<MemShelf, Memory> {
+    let mut files = Vec::new(alloc);
+    for (name, bytes) in [("B", before), ("A", after)] {
+        files.push((
+            Text::copy_of(alloc, name)?,
+            Bytes::copy_of(alloc, bytes.as_bytes())?,
+        ))?;
+    }
+    MemShelf::new(alloc, files, Vec::from_slice(alloc, fail)?)
+}
+
+// Has nothing pending behind it, where it answers true.
+fn settle<T: Tree>(tree: &mut T) -> bool
+    ensures { T.Tells → IsTrue result → IsDurable (T.history tree.new) }
+{
+    tree.sync().is_ok()
+}
+
+fn try_run<T: Tree, H: Shelf, W: Sink>(
+    alloc: Global,
+    words: &[&str],
+    tree: &mut T,
+    shelf: &mut H,
+    sink: &mut W,
+) -> Result<Status, Memory>
+    requires { T.Tells → IsDurable (T.history tree.old) }
+{
+    let mut list = Vec::new(alloc);
+    for word in words {
+        list.push(String::from_str(alloc, word)?)?;
+    }
+    Ok(run(alloc, &list, tree, shelf, sink))
+}
+
+// Which of the names `a`, `b`, `c` and `k` are files, in this order.
+fn standing<T: Tree>(alloc: Global, tree: &mut T) -> Result<String, Memory> {
+    let mut names = String::new(alloc);
+    for name in ["a", "b", "c", "k"] {
+        if tree.kind(&path_of(alloc, name)?) == Ok(Some(Kind::File)) {
+            names.push_str(name)?;
+        }
+    }
+    Ok(names)
+}
+
+#[test]
+fn commits_and_refusals(rt: HostRuntime) -> Result<(), Fail> {
+    let alloc = rt.alloc();
+    let owner = "dired 1\n  .:\n  total 2\n  -rw-r--r-- 1 v g 0 1970-01-01 00:00 a\n  -rw-r--r-- 1 u g 0 1970-01-01 00:00 b\n";
+    let longer = "dired 1\n  .:\n  total 2\n  -rw-r--r-- 1 u g 0 1970-01-01 00:00 a\n  -rw-r--r-- 1 u g 0 1970-01-01 00:00 b\nx\n";
+    let root = "dired 1\n  .:\n  total 2\n  -rw-r--r-- 1 u g 0 1970-01-01 00:00 x/..\n  -rw-r--r-- 1 u g 0 1970-01-01 00:00 b\n";
+    let both = "dired 1\n  .:\n  total 2\n  -rw-r--r-- 1 u g 0 1970-01-01 00:00 c\n  -rw-r--r-- 1 u g 0 1970-01-01 00:00 d\n";
+    let one = "dired 1\n  .:\n  total 1\n  -rw-r--r-- 1 u g 0 1970-01-01 00:00 a\n";
+    let taken = "dired 1\n  .:\n  total 1\n  -rw-r--r-- 1 u g 0 1970-01-01 00:00 k\n";
+    let other = "dired 2\n  .:\n  total 1\n  -rw-r--r-- 1 u g 0 1970-01-01 00:00 a\n";
+    let cases = [
+        (BEFORE, RENAMED, ["a", "b"], 0o644, 0, ONE, "bc"),
+        (BEFORE, BEFORE, ["a", "b"], 0o644, 0, NONE, "ab"),
+        (one, taken, ["a", "k"], 0o644, 23, "dired: line 4: not built yet\n", "ak"),
+        (BEFORE, RENAMED, ["a", "b"], 0o600, 10, "dired: line 4: the file is not as shown\n", "ab"),
+        (BEFORE, owner, ["a", "b"], 0o644, 8, "dired: line 4: Fixed\n", "ab"),
+        (BEFORE, longer, ["a", "b"], 0o644, 8, "dired: line 6: LineCount\n", "ab"),
+        (BEFORE, root, ["a", "b"], 0o644, 8, "dired: line 4: BadName\n", "ab"),
+        (BEFORE, both, ["a", "b"], 0o644, 23, "dired: line 5: not built yet\n", "ab"),
+        (other, other, ["a", "b"], 0o644, 23, "dired: line 1: not built yet\n", "ab"),
+    ];
+    for (before, after, names, mode, number, output, left) in cases {
+        let mut tree = tree_of(alloc, &names, mode)?;
+        let mut shelf = shelf_of(alloc, before, after, &[])?;
+        let mut sink = MemSink::new(alloc, Vec::new(alloc))?;
+        assert!(rt; settle(&mut tree));
+        let status = try_run(alloc, &["commit", "B", "A"], &mut tree, &mut shelf, &mut sink)?;
+        assert_eq!(rt; status.number(), number, "at {output}");
+        assert_eq!(rt; sink.taken(), output.as_bytes());
+        assert_eq!(rt; standing(alloc, &mut tree)?.as_str(), left, "at {output}");
+    }
+    Ok(())
+}
+
+#[test]
+fn words_inputs_and_output(rt: HostRuntime) -> Result<(), Fail> {
+    let alloc = rt.alloc();
+    let usage = "dired: usage: list, commit, run, recover or drill\n";
+    let cases = [
+        (["commit", "B", ""], 2, 0, 9, 1, usage, "ab"),
+        (["commit", "B", "C"], 3, 0, 9, 6, "dired: no such input: C\n", "ab"),
+        (["commit", "\n", "A"], 3, 0, 9, 6, "dired: no such input: \\n\n", "ab"),
+        (["commits", "B", "A"], 3, 0, 9, 1, usage, "ab"),
+        (["commit", "B", "A"], 3, 1, 9, 3, "dired: cannot read A\n", "ab"),
+        (["commit", "B", "A"], 3, 0, 0, 5, "", "bc"),
+    ];
+    for (words, count, fail_read, fail_write, number, output, left) in cases {
+        let mut tree = tree_of(alloc, &["a", "b"], 0o644)?;
+        let fail = [fail_read];
+        let reads: &[u64] = if number == 3 { &fail } else { &[] };
+        let mut shelf = shelf_of(alloc, BEFORE, RENAMED, reads)?;
+        let mut sink = MemSink::new(alloc, Vec::from_slice(alloc, &[fail_write])?)?;
+        assert!(rt; settle(&mut tree));
+        let status = try_run(alloc, words.get(..count).unwrap_or(&[]), &mut tree, &mut shelf, &mut sink)?;
+        assert_eq!(rt; status.number(), number, "at {output}");
+        assert_eq!(rt; sink.taken(), output.as_bytes());
+        assert_eq!(rt; standing(alloc, &mut tree)?.as_str(), left, "at {output}");
+        if number == 5 {
+            assert_eq!(rt; status, Status::WriteFault { held: 0 });
+        }
+    }
+    Ok(())
+}
+
+// Each look and each changing call of one commit fails in turn, done and not done. Of what stands each crash leaves the old or the
+// edited tree.
+#[test]
+fn each_call_fails(rt: HostRuntime) -> Result<(), Fail> {
+    let alloc = rt.alloc();
+    let cases = [
+        (Some(0), None, "dired: kind failed; nothing was decided\n", "ab", 2),
+        (Some(1), None, "dired: mode failed; nothing was decided\n", "ab", 2),
+        (Some(2), None, "dired: kind failed; nothing was decided\n", "ab", 2),
+        (None, Some((0, false)), "dired: sync failed; nothing was decided\n", "ab", 2),
+        (None, Some((0, true)), "dired: sync failed; nothing was decided\n", "ab", 2),
+        (None, Some((1, false)), "dired: rename failed; nothing was decided\n", "ab", 2),
+        (None, Some((1, true)), "dired: rename failed; nothing was decided\n", "bc", 4),
+        (None, Some((2, false)), "dired: sync failed; nothing was decided\n", "bc", 4),
+        (None, Some((2, true)), "dired: sync failed; nothing was decided\n", "bc", 2),
+    ];
+    for (look, change, output, left, image_count) in cases {
+        let mut tree = tree_of(alloc, &["a", "b"], 0o644)?;
+        let mut shelf = shelf_of(alloc, BEFORE, RENAMED, &[])?;
+        let mut sink = MemSink::new(alloc, Vec::new(alloc))?;
+        if let Some(call) = change {
+            // The sync of `settle` is call 0.
+            tree.fail_changes(&[(call.0 + 1, call.1)])?;
+        }
+        if let Some(call) = look {
+            tree.fail_looks(&[call])?;
+        }
+        assert!(rt; settle(&mut tree));
+        let status = try_run(alloc, &["commit", "B", "A"], &mut tree, &mut shelf, &mut sink)?;
+        assert_eq!(rt; status.number(), 4, "at {output}");
+        assert_eq!(rt; sink.taken(), output.as_bytes());
+        assert_eq!(rt; tree.short(), 0);
+        tree.fail_looks(&[])?;
+        assert_eq!(rt; standing(alloc, &mut tree)?.as_str(), left, "at {output}");
+        let mut count = 0;
+        for mut image in tree.images()? {
+            let names = standing(alloc, &mut image)?;
+            assert!(rt; names.as_str() == "ab" || names.as_str() == "bc", "at {output}");
+            count += 1;
+        }
+        assert_eq!(rt; count, image_count, "at {output}");
+    }
+    Ok(())
+}
