@@ -1,3 +1,4 @@
+mod CompleteLemmas
 mod CountLemmas
 mod NameLemmas
 mod OneLemmas

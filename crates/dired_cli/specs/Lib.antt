@@ -4,4 +4,5 @@ pub mod Requests
 pub mod Runs
 pub mod Statuses
 pub mod Verdicts
+pub mod WellFormed
 pub mod Words

@@ -51,7 +51,7 @@ abbrev pub Decides : Verdict → Outside → Outside → Status → Type 0
 Decides verdict before now decided = ByCause decided
     ((now.history ≡ before.history) × (now.tree_faults ≡ before.tree_faults))
     (λ first. FaultLeaves first (current_tree before.history) (edited verdict (current_tree before.history)) now.found (current_tree now.history)
-        × (now.tree_faults ≡ with_fault first before.tree_faults) × (now.read_faults ≡ before.read_faults))
+    × (now.tree_faults ≡ with_fault first before.tree_faults) × (now.read_faults ≡ before.read_faults))
     (λ failed. (now.history ≡ before.history) × (now.tree_faults ≡ before.tree_faults) × (now.read_faults ≡ raised before.read_faults) × (now.last_read ≡ Some failed))
     ((decided ≡ status_of verdict) × (current_tree now.history ≡ edited verdict (current_tree before.history)) × IsDurable now.history × SameFaults before now)
 

@@ -44,7 +44,8 @@ pub fn commit_one<T: Tree>(tree: &mut T, from: &Path, to: &Path) -> Result<(), C
     if tree.rename(from, to).is_err() {
         return Err(CallName::Rename);
     }
-    if tree.sync().is_err() {
+    let synced = tree.sync();
+    if synced.is_err() {
         return Err(CallName::Sync);
     }
     Ok(())
@@ -55,7 +56,11 @@ pub fn commit_one<T: Tree>(tree: &mut T, from: &Path, to: &Path) -> Result<(), C
 ///
 /// # Errors
 /// `Stale`, `NotBuilt` or want of memory, with the tree as before, or the first failed call of the tree.
-pub fn carry_out<T: Tree>(alloc: Global, tree: &mut T, asked: Option<NameChange>) -> Result<Text, Status>
+pub fn carry_out<T: Tree>(
+    alloc: Global,
+    tree: &mut T,
+    asked: Option<NameChange>,
+) -> Result<Text, Status>
     requires can { CanBeAsked asked }
     requires durable { T.Tells → IsDurable (T.history tree.old) }
 
@@ -156,9 +161,9 @@ fn look<T: Tree>(tree: &mut T, change: &NameChange) -> Result<(), Status>
 fn summary(alloc: Global, names: u32) -> Result<Text, Memory>
     ensures { IfOk result (λ text. text ≡ summary_text names) }
 {
-    Ok(Text::from_string(
-        format!(in alloc; "renamed {names}, retargeted 0, modes 0, replaced 0, made 0, flagged 0\n")?,
-    ))
+    Ok(Text::from_string(format!(in alloc;
+        "renamed {names}, retargeted 0, modes 0, replaced 0, made 0, flagged 0\n"
+    )?))
 }
 
 // Whether a file of this mode stands at the path.

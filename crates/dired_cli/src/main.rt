@@ -15,16 +15,16 @@ mod tests;
 mod words;
 
 pub use program::run;
-pub use status::{Counted, Status};
-
 use real_inputs::RealInputs;
 use real_output::RealOutput;
 use real_tree::RealTree;
+pub use status::{Counted, Status};
 use std::env;
 use std::process::ExitCode;
 
 // The ends that are no status of a run: the working directory can't be taken as the tree, and the words can't be had.
 const NO_TREE: u8 = 40;
+
 const NO_WORDS: u8 = 42;
 
 fn main(rt: HostRuntime) -> ExitCode {

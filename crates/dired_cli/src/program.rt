@@ -1,14 +1,15 @@
 // The top call.
-ghost use Rattle.std.specs.Prelude.{◌≡◌, ℕ, List, MatchResult, IfOk, IfErr, Some, Ok, Err, false, map};
+ghost use Rattle.std.specs.Prelude.{◌≡◌, ◌⊎◌, ℕ, List, MatchResult, IfOk, IfErr, Some, Ok, Err, false, map};
 ghost use Rattle.std.specs.String.{string_bytes};
-ghost use Rattle.dired_text.specs.Counts.{raised};
+ghost use Rattle.dired_text.specs.Counts.{raised, Stayed};
 ghost use Rattle.tree_core.specs.History.{current_tree, IsDurable, LeavesOnly};
-ghost use Rattle.tree_core.specs.Faults.{with_fault};
+ghost use Rattle.tree_core.specs.Faults.{with_fault, TreeHeld};
 ghost use Rattle.dired_cli.specs.Statuses.{ByCause, IsRefusal};
 ghost use Rattle.dired_cli.specs.Verdicts.{IsOldOrEdited, FaultLeaves, edited, Refuses, IsDone};
 ghost use Rattle.tree_core.specs.declared.node.CallName.{CallName as Call};
-ghost use Rattle.dired_cli.specs.declared.status.Status.TheVariants.{TreeFault, ReadFault, WriteFault};
+ghost use Rattle.dired_cli.specs.declared.status.Status.TheVariants.{Done, Memory, TreeFault, ReadFault, WriteFault};
 ghost use Rattle.dired_cli.specs.Reports.{Said};
+ghost use Rattle.dired_cli.specs.WellFormed.{IsWellFormed};
 ghost use Rattle.dired_cli.specs.Runs.{verdict, Decides, line_of, may_follow_fault};
 
 use crate::Status;
@@ -37,15 +38,20 @@ pub fn run<T: Tree, H: Shelf, W: Sink>(
     // The status is decided by the verdict, by the first failed call or by want of memory, and then its line is written.
     ensures outcome { T.Tells → H.Tells → (decided : Status) ×
         (Decides (verdict (map string_bytes words.now) (H.files shelf.old) (current_tree (T.history tree.old)))
-            (record { history = T.history tree.old; tree_faults = T.faults tree.old; found = T.before_failed tree.old; read_faults = H.faults shelf.old; last_read = H.last_failed shelf.old })
-            (record { history = T.history tree.new; tree_faults = T.faults tree.new; found = T.before_failed tree.new; read_faults = H.faults shelf.new; last_read = H.last_failed shelf.new })
-            decided
+        (record { history = T.history tree.old; tree_faults = T.faults tree.old; found = T.before_failed tree.old; read_faults = H.faults shelf.old; last_read = H.last_failed shelf.old })
+        (record { history = T.history tree.new; tree_faults = T.faults tree.new; found = T.before_failed tree.new; read_faults = H.faults shelf.new; last_read = H.last_failed shelf.new })
+        decided
         × Said W.Tells decided (line_of (verdict (map string_bytes words.now) (H.files shelf.old) (current_tree (T.history tree.old))) decided)
-            (W.taken sink.old) (W.taken sink.new) (W.faults sink.old) (W.faults sink.new) result) }
+        (W.taken sink.old) (W.taken sink.new) (W.faults sink.old) (W.faults sink.new) result) }
 
     // Stopped at any moment, whatever failed, the tree is the old one or the edited one.
     ensures any_moment { T.Tells → H.Tells → LeavesOnly (T.history tree.old) (T.history tree.new)
         (IsOldOrEdited (current_tree (T.history tree.old)) (edited (verdict (map string_bytes words.now) (H.files shelf.old) (current_tree (T.history tree.old))) (current_tree (T.history tree.old)))) }
+
+    // What is well formed is done, where no call failed and memory was there.
+    ensures complete { T.Tells → H.Tells → IsWellFormed (map string_bytes words.now) (H.files shelf.old) (current_tree (T.history tree.old))
+        → TreeHeld (T.faults tree.old) (T.faults tree.new) → Stayed (H.faults shelf.old) (H.faults shelf.new) → Stayed (W.faults sink.old) (W.faults sink.new)
+        → (result ≡ Done) ⊎ (result ≡ Memory) }
 
     // A fault comes only where a call of that object failed in this run, and is named. Every other status comes only where
     // no call failed.

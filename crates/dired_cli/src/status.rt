@@ -93,9 +93,10 @@ impl Status {
                 let name = escape(alloc, name.as_str(), false)?;
                 Ok(format!(in alloc; "dired: cannot read {}\n", name.as_str())?)
             }
-            Status::TreeFault { first } => Ok(
-                format!(in alloc; "dired: {} failed; nothing was decided\n", call_text(*first))?,
-            ),
+            Status::TreeFault { first } => Ok(format!(in alloc;
+                "dired: {} failed; nothing was decided\n",
+                call_text(*first)
+            )?),
             Status::Missing { name } => {
                 let name = escape(alloc, name.as_str(), false)?;
                 Ok(format!(in alloc; "dired: no such input: {}\n", name.as_str())?)
@@ -112,7 +113,9 @@ impl Status {
 
 // The fixed texts, which are written without memory.
 pub const USAGE: &str = "dired: usage: list, commit, run, recover or drill\n";
+
 pub const OUT_OF_MEMORY: &str = "dired: out of memory\n";
+
 pub const NOTHING_DECIDED: &str = " failed; nothing was decided\n";
 
 /// The name of a call as texts have it.

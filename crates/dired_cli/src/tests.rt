@@ -7,9 +7,14 @@ use std::alloc::Global;
 use std::test::Fail;
 use tree_core::{Entry, Kind, MemTree, Node, Tree};
 
-const BEFORE: &str = "dired 1\n  .:\n  total 2\n  -rw-r--r-- 1 u g 0 1970-01-01 00:00 a\n  -rw-r--r-- 1 u g 0 1970-01-01 00:00 b\n";
-const RENAMED: &str = "dired 1\n  .:\n  total 2\n  -rw-r--r-- 1 u g 0 1970-01-01 00:00 c\n  -rw-r--r-- 1 u g 0 1970-01-01 00:00 b\n";
+const BEFORE: &str =
+    "dired 1\n  .:\n  total 2\n  -rw-r--r-- 1 u g 0 1970-01-01 00:00 a\n  -rw-r--r-- 1 u g 0 1970-01-01 00:00 b\n";
+
+const RENAMED: &str =
+    "dired 1\n  .:\n  total 2\n  -rw-r--r-- 1 u g 0 1970-01-01 00:00 c\n  -rw-r--r-- 1 u g 0 1970-01-01 00:00 b\n";
+
 const ONE: &str = "renamed 1, retargeted 0, modes 0, replaced 0, made 0, flagged 0\n";
+
 const NONE: &str = "renamed 0, retargeted 0, modes 0, replaced 0, made 0, flagged 0\n";
 
 // The path of one name.
@@ -97,30 +102,96 @@ fn standing<T: Tree>(alloc: Global, tree: &mut T) -> Result<String, Memory> {
 #[test]
 fn commits_and_refusals(rt: HostRuntime) -> Result<(), Fail> {
     let alloc = rt.alloc();
-    let owner = "dired 1\n  .:\n  total 2\n  -rw-r--r-- 1 v g 0 1970-01-01 00:00 a\n  -rw-r--r-- 1 u g 0 1970-01-01 00:00 b\n";
-    let longer = "dired 1\n  .:\n  total 2\n  -rw-r--r-- 1 u g 0 1970-01-01 00:00 a\n  -rw-r--r-- 1 u g 0 1970-01-01 00:00 b\nx\n";
-    let root = "dired 1\n  .:\n  total 2\n  -rw-r--r-- 1 u g 0 1970-01-01 00:00 x/..\n  -rw-r--r-- 1 u g 0 1970-01-01 00:00 b\n";
-    let both = "dired 1\n  .:\n  total 2\n  -rw-r--r-- 1 u g 0 1970-01-01 00:00 c\n  -rw-r--r-- 1 u g 0 1970-01-01 00:00 d\n";
+    let owner =
+        "dired 1\n  .:\n  total 2\n  -rw-r--r-- 1 v g 0 1970-01-01 00:00 a\n  -rw-r--r-- 1 u g 0 1970-01-01 00:00 b\n";
+    let longer =
+        "dired 1\n  .:\n  total 2\n  -rw-r--r-- 1 u g 0 1970-01-01 00:00 a\n  -rw-r--r-- 1 u g 0 1970-01-01 00:00 b\nx\n";
+    let root =
+        "dired 1\n  .:\n  total 2\n  -rw-r--r-- 1 u g 0 1970-01-01 00:00 x/..\n  -rw-r--r-- 1 u g 0 1970-01-01 00:00 b\n";
+    let both =
+        "dired 1\n  .:\n  total 2\n  -rw-r--r-- 1 u g 0 1970-01-01 00:00 c\n  -rw-r--r-- 1 u g 0 1970-01-01 00:00 d\n";
     let one = "dired 1\n  .:\n  total 1\n  -rw-r--r-- 1 u g 0 1970-01-01 00:00 a\n";
     let taken = "dired 1\n  .:\n  total 1\n  -rw-r--r-- 1 u g 0 1970-01-01 00:00 k\n";
     let other = "dired 2\n  .:\n  total 1\n  -rw-r--r-- 1 u g 0 1970-01-01 00:00 a\n";
     let cases = [
         (BEFORE, RENAMED, ["a", "b"], 0o644, 0, ONE, "bc"),
         (BEFORE, BEFORE, ["a", "b"], 0o644, 0, NONE, "ab"),
-        (one, taken, ["a", "k"], 0o644, 23, "dired: line 4: not built yet\n", "ak"),
-        (BEFORE, RENAMED, ["a", "b"], 0o600, 10, "dired: line 4: the file is not as shown\n", "ab"),
-        (BEFORE, owner, ["a", "b"], 0o644, 8, "dired: line 4: Fixed\n", "ab"),
-        (BEFORE, longer, ["a", "b"], 0o644, 8, "dired: line 6: LineCount\n", "ab"),
-        (BEFORE, root, ["a", "b"], 0o644, 8, "dired: line 4: BadName\n", "ab"),
-        (BEFORE, both, ["a", "b"], 0o644, 23, "dired: line 5: not built yet\n", "ab"),
-        (other, other, ["a", "b"], 0o644, 23, "dired: line 1: not built yet\n", "ab"),
+        (
+            one,
+            taken,
+            ["a", "k"],
+            0o644,
+            23,
+            "dired: line 4: not built yet\n",
+            "ak",
+        ),
+        (
+            BEFORE,
+            RENAMED,
+            ["a", "b"],
+            0o600,
+            10,
+            "dired: line 4: the file is not as shown\n",
+            "ab",
+        ),
+        (
+            BEFORE,
+            owner,
+            ["a", "b"],
+            0o644,
+            8,
+            "dired: line 4: Fixed\n",
+            "ab",
+        ),
+        (
+            BEFORE,
+            longer,
+            ["a", "b"],
+            0o644,
+            8,
+            "dired: line 6: LineCount\n",
+            "ab",
+        ),
+        (
+            BEFORE,
+            root,
+            ["a", "b"],
+            0o644,
+            8,
+            "dired: line 4: BadName\n",
+            "ab",
+        ),
+        (
+            BEFORE,
+            both,
+            ["a", "b"],
+            0o644,
+            23,
+            "dired: line 5: not built yet\n",
+            "ab",
+        ),
+        (
+            other,
+            other,
+            ["a", "b"],
+            0o644,
+            23,
+            "dired: line 1: not built yet\n",
+            "ab",
+        ),
     ];
     for (before, after, names, mode, number, output, left) in cases {
         let mut tree = tree_of(alloc, &names, mode)?;
         let mut shelf = shelf_of(alloc, before, after, &[])?;
         let mut sink = MemSink::new(alloc, Vec::new(alloc))?;
         assert!(rt; settle(&mut tree));
-        let status = try_run(alloc, &["commit", "B", "A"], &mut tree, &mut shelf, &mut sink)?;
+        let status = try_run(
+            alloc,
+            &["commit", "B", "A"],
+            &mut tree,
+            &mut shelf,
+            &mut sink,
+        )?;
         assert_eq!(rt; status.number(), number, "at {output}");
         assert_eq!(rt; sink.taken(), output.as_bytes());
         assert_eq!(rt; standing(alloc, &mut tree)?.as_str(), left, "at {output}");
@@ -134,10 +205,34 @@ fn words_inputs_and_output(rt: HostRuntime) -> Result<(), Fail> {
     let usage = "dired: usage: list, commit, run, recover or drill\n";
     let cases = [
         (["commit", "B", ""], 2, 0, 9, 1, usage, "ab"),
-        (["commit", "B", "C"], 3, 0, 9, 6, "dired: no such input: C\n", "ab"),
-        (["commit", "\n", "A"], 3, 0, 9, 6, "dired: no such input: \\n\n", "ab"),
+        (
+            ["commit", "B", "C"],
+            3,
+            0,
+            9,
+            6,
+            "dired: no such input: C\n",
+            "ab",
+        ),
+        (
+            ["commit", "\n", "A"],
+            3,
+            0,
+            9,
+            6,
+            "dired: no such input: \\n\n",
+            "ab",
+        ),
         (["commits", "B", "A"], 3, 0, 9, 1, usage, "ab"),
-        (["commit", "B", "A"], 3, 1, 9, 3, "dired: cannot read A\n", "ab"),
+        (
+            ["commit", "B", "A"],
+            3,
+            1,
+            9,
+            3,
+            "dired: cannot read A\n",
+            "ab",
+        ),
         (["commit", "B", "A"], 3, 0, 0, 5, "", "bc"),
     ];
     for (words, count, fail_read, fail_write, number, output, left) in cases {
@@ -147,7 +242,13 @@ fn words_inputs_and_output(rt: HostRuntime) -> Result<(), Fail> {
         let mut shelf = shelf_of(alloc, BEFORE, RENAMED, reads)?;
         let mut sink = MemSink::new(alloc, Vec::from_slice(alloc, &[fail_write])?)?;
         assert!(rt; settle(&mut tree));
-        let status = try_run(alloc, words.get(..count).unwrap_or(&[]), &mut tree, &mut shelf, &mut sink)?;
+        let status = try_run(
+            alloc,
+            words.get(..count).unwrap_or(&[]),
+            &mut tree,
+            &mut shelf,
+            &mut sink,
+        )?;
         assert_eq!(rt; status.number(), number, "at {output}");
         assert_eq!(rt; sink.taken(), output.as_bytes());
         assert_eq!(rt; standing(alloc, &mut tree)?.as_str(), left, "at {output}");
@@ -164,15 +265,69 @@ fn words_inputs_and_output(rt: HostRuntime) -> Result<(), Fail> {
 fn each_call_fails(rt: HostRuntime) -> Result<(), Fail> {
     let alloc = rt.alloc();
     let cases = [
-        (Some(0), None, "dired: kind failed; nothing was decided\n", "ab", 2),
-        (Some(1), None, "dired: mode failed; nothing was decided\n", "ab", 2),
-        (Some(2), None, "dired: kind failed; nothing was decided\n", "ab", 2),
-        (None, Some((0, false)), "dired: sync failed; nothing was decided\n", "ab", 2),
-        (None, Some((0, true)), "dired: sync failed; nothing was decided\n", "ab", 2),
-        (None, Some((1, false)), "dired: rename failed; nothing was decided\n", "ab", 2),
-        (None, Some((1, true)), "dired: rename failed; nothing was decided\n", "bc", 4),
-        (None, Some((2, false)), "dired: sync failed; nothing was decided\n", "bc", 4),
-        (None, Some((2, true)), "dired: sync failed; nothing was decided\n", "bc", 2),
+        (
+            Some(0),
+            None,
+            "dired: kind failed; nothing was decided\n",
+            "ab",
+            2,
+        ),
+        (
+            Some(1),
+            None,
+            "dired: mode failed; nothing was decided\n",
+            "ab",
+            2,
+        ),
+        (
+            Some(2),
+            None,
+            "dired: kind failed; nothing was decided\n",
+            "ab",
+            2,
+        ),
+        (
+            None,
+            Some((0, false)),
+            "dired: sync failed; nothing was decided\n",
+            "ab",
+            2,
+        ),
+        (
+            None,
+            Some((0, true)),
+            "dired: sync failed; nothing was decided\n",
+            "ab",
+            2,
+        ),
+        (
+            None,
+            Some((1, false)),
+            "dired: rename failed; nothing was decided\n",
+            "ab",
+            2,
+        ),
+        (
+            None,
+            Some((1, true)),
+            "dired: rename failed; nothing was decided\n",
+            "bc",
+            4,
+        ),
+        (
+            None,
+            Some((2, false)),
+            "dired: sync failed; nothing was decided\n",
+            "bc",
+            4,
+        ),
+        (
+            None,
+            Some((2, true)),
+            "dired: sync failed; nothing was decided\n",
+            "bc",
+            2,
+        ),
     ];
     for (look, change, output, left, image_count) in cases {
         let mut tree = tree_of(alloc, &["a", "b"], 0o644)?;
@@ -186,7 +341,13 @@ fn each_call_fails(rt: HostRuntime) -> Result<(), Fail> {
             tree.fail_looks(&[call])?;
         }
         assert!(rt; settle(&mut tree));
-        let status = try_run(alloc, &["commit", "B", "A"], &mut tree, &mut shelf, &mut sink)?;
+        let status = try_run(
+            alloc,
+            &["commit", "B", "A"],
+            &mut tree,
+            &mut shelf,
+            &mut sink,
+        )?;
         assert_eq!(rt; status.number(), 4, "at {output}");
         assert_eq!(rt; sink.taken(), output.as_bytes());
         assert_eq!(rt; tree.short(), 0);
@@ -195,7 +356,10 @@ fn each_call_fails(rt: HostRuntime) -> Result<(), Fail> {
         let mut count = 0;
         for mut image in tree.images()? {
             let names = standing(alloc, &mut image)?;
-            assert!(rt; names.as_str() == "ab" || names.as_str() == "bc", "at {output}");
+            assert!(rt;
+                names.as_str() == "ab" || names.as_str() == "bc",
+                "at {output}"
+            );
             count += 1;
         }
         assert_eq!(rt; count, image_count, "at {output}");

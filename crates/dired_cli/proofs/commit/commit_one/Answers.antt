@@ -17,13 +17,13 @@ pub returns-then-is_err-3-clause-any_moment : goal.returns-then-is_err-3-clause-
 returns-then-is_err-3-clause-any_moment g c tells =
     let one = after_ok Sync _ _ _ (sym c.is_err.ensures.value ∙ c.if-is_err.false) (c.sync.ensures.history tells) in
     let two = after_ok (Rename c.args.from.now c.args.to.now) _ _ _ (sym c.is_err-2.ensures.value ∙ c.if-is_err-2.false) (c.rename.ensures.history tells) in
-    at_third _ _ _ (c.requires.durable tells) _ _ _ (two ∙ ap (λ (s : History). Then s (Rename c.args.from.now c.args.to.now)) one) (c.sync-2.ensures.history tells)
+    at_third _ _ _ (c.requires.durable tells) _ _ _ (two ∙ ap (λ (s : History). Then s (Rename c.args.from.now c.args.to.now)) one) (c.sync-synced.ensures.history tells)
 
 pub returns-clause-durable : goal.returns-clause-durable
-returns-clause-durable g c tells = durable_ok _ _ _ (sym c.is_err-3.ensures.value ∙ c.if-is_err-3.false) (c.sync-2.ensures.history tells)
+returns-clause-durable g c tells = durable_ok _ _ _ (sym c.is_err-3.ensures.value ∙ c.if-is_err-3.false) (c.sync-synced.ensures.history tells)
 
 pub returns-clause-any_moment : goal.returns-clause-any_moment
 returns-clause-any_moment g c tells =
     let one = after_ok Sync _ _ _ (sym c.is_err.ensures.value ∙ c.if-is_err.false) (c.sync.ensures.history tells) in
     let two = after_ok (Rename c.args.from.now c.args.to.now) _ _ _ (sym c.is_err-2.ensures.value ∙ c.if-is_err-2.false) (c.rename.ensures.history tells) in
-    at_third _ _ _ (c.requires.durable tells) _ _ _ (two ∙ ap (λ (s : History). Then s (Rename c.args.from.now c.args.to.now)) one) (c.sync-2.ensures.history tells)
+    at_third _ _ _ (c.requires.durable tells) _ _ _ (two ∙ ap (λ (s : History). Then s (Rename c.args.from.now c.args.to.now)) one) (c.sync-synced.ensures.history tells)

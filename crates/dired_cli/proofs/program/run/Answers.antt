@@ -1,3 +1,5 @@
+use Rattle.dired_cli.specs.Runs.{Outside}
+use Rattle.dired_cli.proofs.CompleteLemmas.{well_formed_done, decided_done, said_done}
 use Rattle.dired_cli.proofs.RunLemmas.{outcome_of, ended_by_read, read_counted, read_named}
 use Rattle.dired_cli.proofs.program.run.Goals as goal
 
@@ -12,3 +14,11 @@ pub returns-clause-read_fault : goal.returns-clause-read_fault
 returns-clause-read_fault g c failed is =
     let ended = ended_by_read _ _ _ _ _ _ _ failed c.report.ensures is in
     (read_counted _ failed _ _ ended c.decide-ended.ensures.shelf_count, λ tells. read_named _ failed _ ended (c.decide-ended.ensures.last_read tells))
+
+pub returns-clause-complete : goal.returns-clause-complete
+returns-clause-complete g c tells also formed trees reads writes =
+    let before : Outside = record { history = g.T.Tree.history c.args.tree.now; tree_faults = g.T.Tree.faults c.args.tree.now; found = g.T.Tree.before_failed c.args.tree.now; read_faults = g.H.Shelf.faults c.args.shelf.now; last_read = g.H.Shelf.last_failed c.args.shelf.now } in
+    let now : Outside = record { history = g.T.Tree.history c.decide-ended.new.tree; tree_faults = g.T.Tree.faults c.decide-ended.new.tree; found = g.T.Tree.before_failed c.decide-ended.new.tree; read_faults = g.H.Shelf.faults c.decide-ended.new.shelf; last_read = g.H.Shelf.last_failed c.decide-ended.new.shelf } in
+    let outcome = outcome_of _ before now _ _ _ _ _ _ _ (c.requires.durable tells)
+    (c.decide-ended.ensures.done tells also) (c.decide-ended.ensures.refused tells also) c.decide-ended.ensures.tree_count c.decide-ended.ensures.shelf_count c.decide-ended.ensures.end c.report.ensures in
+    said_done _ outcome.0 _ _ _ _ _ _ writes (decided_done _ before now outcome.0 (well_formed_done _ _ _ formed) trees reads outcome.1.0) outcome.1.1

@@ -1,0 +1,70 @@
+-- What is well formed is done, unless a call of the outside fails or memory runs out.
+use Rattle.std.proofs.Common.{◌≡◌, ◌⊎◌, inl, inr, ⊎_elim, ℕ, ◌+◌, ◌<◌, ◌≤◌, min, Bool, true, false, cond, List, [], ◌∷◌, length, refl, sym, ◌∙◌, ap, subst, arith, Option, Some, None, is_some, Result, Ok, Err, nat_lt, if◌then◌else◌}
+use Rattle.std.proofs.lemmas.Bool.{cond-true, cond-false, le-ltb}
+use Rattle.std.specs.FinMap.{get}
+use Rattle.dired_text.specs.Counts.{raised, Rose, Stayed}
+use Rattle.tree_core.specs.declared.edit.Edit.{Edit}
+use Rattle.tree_core.specs.FileTree.{FileTree}
+use Rattle.tree_core.specs.History.{History, current_tree}
+use Rattle.tree_core.specs.Faults.{with_fault, TreeHeld}
+use Rattle.tree_core.specs.declared.faults.Faults.{Faults}
+use Rattle.wdired_buffer.specs.declared.line.BufferLine.{BufferLine}
+use Rattle.wdired_buffer.specs.Edits.{edits_of}
+use Rattle.dired_cli.specs.declared.status.Counted.TheVariants.{BufferBytes}
+use Rattle.dired_cli.specs.declared.status.Status.{Status}
+use Rattle.dired_cli.specs.declared.status.Status.TheVariants.{Done, Usage, Memory, ReadFault, TreeFault, WriteFault, Missing, Faulty, Stale, TooLarge, NotBuilt}
+use Rattle.dired_cli.specs.Statuses.{number_of}
+use Rattle.dired_cli.specs.Inputs.{Files, input_of, bytes_or_refusal, max_buffer_bytes}
+use Rattle.dired_cli.specs.Requests.{Asked, request_of, of_inputs, asked_by, of_buffer, of_edits, only_change, is_in_root, path_or_root}
+use Rattle.dired_cli.specs.Reports.{Said}
+use Rattle.dired_cli.specs.Verdicts.{Verdict, status_of, edited, on_tree, is_file_of}
+use Rattle.dired_cli.specs.Runs.{Outside, Decides, verdict, of_request, line_of}
+use Rattle.dired_cli.specs.WellFormed.{IsAllowed, IsWellFormed}
+
+within : (n m : ℕ) → n ≤ m → nat_lt m n ≡ false
+within n m le = le-ltb m n le
+
+held : (files : Files) (name bytes : List ℕ) → files name ≡ Some bytes → length bytes ≤ max_buffer_bytes → input_of files name ≡ Ok bytes
+held files name bytes is short = ap (bytes_or_refusal name) is ∙ cond-false _ _ _ (within (length bytes) max_buffer_bytes short)
+
+-- nothing asked for, or one edit that is allowed
+done_by : (edits : List Edit) (t : FileTree) → (edits ≡ []) ⊎ ((edit : Edit) × (edits ≡ edit ∷ []) × IsAllowed edit t) → status_of (of_request (only_change edits) t) ≡ Done
+done_by edits t (inl none) = ap (λ es. status_of (of_request (only_change es) t)) none
+done_by edits t (inr (edit, one, allowed)) =
+    ap (λ es. status_of (of_request (only_change es) t)) one
+    ∙ ap (λ r. status_of (of_request r t)) (cond-true (is_in_root edit.source edit.to) _ _ allowed.in_root)
+    ∙ ap status_of (cond-true (is_file_of edit.was.mode (get t edit.source)) _ _ allowed.as_shown ∙ cond-false (is_some (get t (path_or_root edit.to))) _ _ (ap is_some allowed.free))
+
+asks_done : (lines : List BufferLine) (after : List ℕ) (t : FileTree) → (edits_of lines after ≡ Ok []) ⊎ ((edit : Edit) × (edits_of lines after ≡ Ok (edit ∷ [])) × IsAllowed edit t)
+    → status_of (of_request (of_edits (edits_of lines after)) t) ≡ Done
+asks_done lines after t (inl none) = ap (λ r. status_of (of_request (of_edits r) t)) none ∙ done_by [] t (inl refl)
+asks_done lines after t (inr (edit, one, allowed)) = ap (λ r. status_of (of_request (of_edits r) t)) one ∙ done_by (edit ∷ []) t (inr (edit, refl, allowed))
+
+pub well_formed_done : (words : List (List ℕ)) (files : Files) (t : FileTree) → IsWellFormed words files t → status_of (verdict words files t) ≡ Done
+well_formed_done words files t w =
+    ap (λ ws. status_of (verdict ws files t)) w.words_are
+    ∙ ap (λ r. status_of (of_request (of_inputs r (input_of files w.after_name)) t)) (held files w.before_name w.before w.before_held w.before_short)
+    ∙ ap (λ r. status_of (of_request (of_inputs (Ok w.before) r) t)) (held files w.after_name w.after w.after_held w.after_short)
+    ∙ ap (λ r. status_of (of_request (of_buffer r w.after) t)) w.form
+    ∙ asks_done w.lines w.after t w.asks
+
+-- a count that rose didn't stay
+not_raised : (before now : ℕ) → Stayed before now → now ≡ raised before → ⊥
+not_raised before now stayed is = let same : now ≡ raised before = is in omega arith
+
+pub decided_done : (v : Verdict) (before now : Outside) (decided : Status) → status_of v ≡ Done → TreeHeld before.tree_faults now.tree_faults → Stayed before.read_faults now.read_faults → Decides v before now decided → (decided ≡ Done) ⊎ (decided ≡ Memory)
+decided_done v before now Done is trees reads decides = inl refl
+decided_done v before now Usage is trees reads decides = inl (decides.0 ∙ is)
+decided_done v before now Memory is trees reads decides = inr refl
+decided_done v before now (ReadFault name) is trees reads decides = absurd (not_raised before.read_faults now.read_faults reads decides.2)
+decided_done v before now (TreeFault first) is trees reads decides = absurd (not_raised before.tree_faults.count now.tree_faults.count trees (ap (λ (f : Faults). f.count) decides.1))
+decided_done v before now (WriteFault number) is trees reads decides = inl (decides.0 ∙ is)
+decided_done v before now (Missing name) is trees reads decides = inl (decides.0 ∙ is)
+decided_done v before now (Faulty line cause) is trees reads decides = inl (decides.0 ∙ is)
+decided_done v before now (Stale line) is trees reads decides = inl (decides.0 ∙ is)
+decided_done v before now (TooLarge what number) is trees reads decides = inl (decides.0 ∙ is)
+decided_done v before now (NotBuilt line) is trees reads decides = inl (decides.0 ∙ is)
+
+pub said_done : (Told : Type 0) (decided : Status) (text tb t : List ℕ) (cb c : ℕ) (result : Status) → Stayed cb c → (decided ≡ Done) ⊎ (decided ≡ Memory) → Said Told decided text tb t cb c result → (result ≡ Done) ⊎ (result ≡ Memory)
+said_done Told decided text tb t cb c result stayed is (inl said) = ⊎_elim (λ e. inl (said.0 ∙ e)) (λ e. inr (said.0 ∙ e)) is
+said_done Told decided text tb t cb c result stayed is (inr failed) = absurd (not_raised cb c stayed failed.1)
