@@ -1,0 +1,4 @@
+pub mod Commands
+pub mod Quoting
+pub mod Scan
+pub mod ShellWords

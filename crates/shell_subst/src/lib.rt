@@ -1,0 +1,13 @@
+//! The commands that Dired's `!` hands to the shell (GNU Emacs Manual, "Shell Commands in Dired").
+#![tactic(auto)]
+
+mod quoting;
+mod scanning;
+mod substituting;
+#[cfg(test)]
+mod tests;
+mod word_laws;
+
+pub use quoting::quote;
+pub use substituting::{SubstFault, commands};
+pub use word_laws::quoted_name_is_one_word;
