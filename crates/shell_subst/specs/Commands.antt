@@ -37,8 +37,9 @@ abbrev pub pieces_from : Bool → ℕ → List ℕ → List Piece
 pieces_from after_blank more [] = []
 pieces_from after_blank (suc more) (b ∷ bs) = pieces_from false more bs
 pieces_from after_blank zero (b ∷ bs) =
-    if after_blank && b == 42 && is_blank_next bs then AllNames ∷ pieces_from false 0 bs
-    else if after_blank && b == 63 && is_blank_next bs then OneName ∷ pieces_from false 0 bs
+    let is_alone = after_blank && is_blank_next bs in
+    if is_alone && b == 42 then AllNames ∷ pieces_from false 0 bs
+    else if is_alone && b == 63 then OneName ∷ pieces_from false 0 bs
     else if bytes_eq (take 3 (b ∷ bs)) (codes "`?`") then OneName ∷ pieces_from false 2 bs
     else Byte b ∷ pieces_from (is_blank b) 0 bs
 

@@ -1,5 +1,5 @@
 // Names as words of the shell.
-ghost use Rattle.std.specs.Prelude.{◌≡◌, ◌++◌, IfOk, OnOk, flat_map, if◌then◌else◌, [], codes};
+ghost use Rattle.std.specs.Prelude.{◌≡◌, ◌⊎◌, ◌++◌, IfOk, OnOk, flat_map, if◌then◌else◌, [], codes};
 ghost use Rattle.std.specs.List.{list_all};
 ghost use Rattle.std.specs.String.{string_bytes};
 ghost use Rattle.shell_subst.specs.Quoting.{is_plain as is_plain_byte, quoted, within_quotes, argument};
@@ -28,7 +28,8 @@ pub fn quote(alloc: Global, name: &str) -> Result<Text, Memory>
 
 // What is put before a name so that no program takes it for an option.
 fn front_of(name: &str) -> &'static str
-    ensures { argument name.now ≡ result.now ++ name.now }
+    ensures front { argument name.now ≡ result.now ++ name.now }
+    ensures is { (result.now ≡ []) ⊎ (result.now ≡ codes "./") }
 {
     match name.as_bytes() {
         [b'-', ..] => "./",

@@ -20,18 +20,16 @@ pub(crate) fn next_token(after_blank: bool, text: &str) -> Option<(Token, &str)>
     ensures { MatchOption result (text.now ≡ []) (λ x. Cuts after_blank text.now x.0 x.1.now) }
 {
     let (c, later) = split_first_char(text)?;
-    if c == '*' && after_blank && is_blank_next(later) {
-        return Some((Token::AllNames, later));
+    let is_alone = after_blank && is_blank_next(later);
+    match c {
+        '*' if is_alone => Some((Token::AllNames, later)),
+        '?' if is_alone => Some((Token::OneName, later)),
+        '`' => match behind_question(later) {
+            Some(behind) => Some((Token::OneName, behind)),
+            None => Some((Token::Char(c), later)),
+        },
+        _ => Some((Token::Char(c), later)),
     }
-    if c == '?' && after_blank && is_blank_next(later) {
-        return Some((Token::OneName, later));
-    }
-    if c == '`' {
-        if let Some(behind) = behind_question(later) {
-            return Some((Token::OneName, behind));
-        }
-    }
-    Some((Token::Char(c), later))
 }
 
 // Whether a token is whitespace.

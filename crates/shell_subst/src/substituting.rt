@@ -165,12 +165,13 @@ fn fill(alloc: Global, text: &str, shown: &str) -> Result<Text, Memory>
     let mut after_blank = true;
     let mut rest = text;
     while let Some((token, later)) = next_token(after_blank, rest) {
-        match token {
-            Token::Char(c) => command.push(c)?,
-            Token::AllNames | Token::OneName => command.push_str(shown)?,
-        }
         after_blank = is_blank(token);
         rest = later;
+        match token {
+            Token::Char(c) => command.push(c)?,
+            Token::AllNames => command.push_str(shown)?,
+            Token::OneName => command.push_str(shown)?,
+        }
     }
     Ok(Text::from_string(command))
 }

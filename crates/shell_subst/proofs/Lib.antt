@@ -1,0 +1,4 @@
+pub mod QuoteLemmas
+pub mod ScanLemmas
+pub mod Utf8Lemmas
+pub mod WordLemmas
