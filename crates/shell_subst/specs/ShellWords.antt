@@ -1,6 +1,6 @@
 -- The words that the shell reads in a text (POSIX, Shell Command Language, "Token Recognition" and "Quoting"), as far
 -- as blanks, newlines, single quotes and backslashes go.
-use Rattle.std.specs.Prelude.{ℕ, ◌==◌, Bool, ◌||◌, List, [], ◌∷◌, ◌++◌, Option, Some, None, if◌then◌else◌, option_map}
+use Rattle.std.specs.Prelude.{ℕ, ◌==◌, Bool, true, ◌||◌, List, [], ◌∷◌, ◌++◌, Option, Some, None, if◌then◌else◌, option_map}
 use Rattle.shell_subst.specs.Quoting.{quote_mark}
 
 -- where a reader stands: between words, or in a word, of which it has these bytes, there outside quotes, between single
@@ -34,3 +34,8 @@ words_from (Escaped word) (b ∷ bs) = words_from (Bare (word ++ b ∷ [])) bs
 
 abbrev pub words : List ℕ → Option (List (List ℕ))
 words text = words_from Between text
+
+-- whether a word ends here: the text ends or goes on with a byte that ends a word
+abbrev pub is_word_end : List ℕ → Bool
+is_word_end [] = true
+is_word_end (b ∷ bs) = ends_word b

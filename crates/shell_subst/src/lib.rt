@@ -10,4 +10,6 @@ mod word_laws;
 
 pub use quoting::quote;
 pub use substituting::{SubstFault, commands};
-pub use word_laws::{names_in_a_row_are_their_words, quoted_name_is_one_word};
+pub use word_laws::{
+    names_in_a_row_are_their_words, quoted_name_is_one_word, quoted_name_leaves_other_words,
+};
