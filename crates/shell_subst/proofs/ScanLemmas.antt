@@ -40,8 +40,8 @@ pub char-stays : (after_blank : Bool) (c : ℕ) (text later : List ℕ) → text
 char-stays after_blank c text later parts star question tick = elim (cases_lt c 128) [
   | inl low ↦ rw (parts, encode_ascii c low) (stays after_blank c later star question tick)
   | inr high ↦
-    let blank : is_blank c ≡ false = rw (ne_eqb c 32 (λ e. omega arith), ne_eqb c 9 (λ e. omega arith)) refl in
-    rw (parts, blank) (some-high after_blank (encode_utf8 c) later (encode-high c high) (encode-some c))
+      let blank : is_blank c ≡ false = rw (ne_eqb c 32 (λ e. omega arith), ne_eqb c 9 (λ e. omega arith)) refl in
+      rw (parts, blank) (some-high after_blank (encode_utf8 c) later (encode-high c high) (encode-some c))
 ]
 
 no-all : (bs : List ℕ) → list_any is_all_names (map Byte bs) ≡ false

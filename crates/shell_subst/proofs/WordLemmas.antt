@@ -33,8 +33,8 @@ quoted-run : (word bs rest : List ℕ) → words_from (Quoted word) (flat_map wi
 quoted-run word [] rest = rw (append-nil word) refl
 quoted-run word (b ∷ bs) rest = elim (cases_Bool (b == 39)) [
   | inl mark ↦
-    let is : b ≡ 39 = eqb-true b 39 mark in
-    rw is (quoted-run (word ++ 39 ∷ []) bs rest ∙ ap (λ w. words_from (Bare w) rest) (append_assoc word (39 ∷ []) bs))
+      let is : b ≡ 39 = eqb-true b 39 mark in
+      rw is (quoted-run (word ++ 39 ∷ []) bs rest ∙ ap (λ w. words_from (Bare w) rest) (append_assoc word (39 ∷ []) bs))
   | inr other ↦ rw other (rw other (quoted-run (word ++ b ∷ []) bs rest) ∙ ap (λ w. words_from (Bare w) rest) (append_assoc word (b ∷ []) bs))
 ]
 
@@ -68,8 +68,8 @@ rest-words : (word : List ℕ) (names : List (List ℕ)) → All (λ name. name 
 rest-words word [] some = refl
 rest-words word (name ∷ names) some =
     ap (option_map (λ ws. word ∷ ws))
-      (quoted-word name (flat_map (λ next. 32 ∷ quoted next) names) (All-head (λ (n : List ℕ). n ≢ []) name names some)
-      ∙ rest-words (argument name) names (All-tail (λ (n : List ℕ). n ≢ []) name names some))
+    (quoted-word name (flat_map (λ next. 32 ∷ quoted next) names) (All-head (λ (n : List ℕ). n ≢ []) name names some)
+    ∙ rest-words (argument name) names (All-tail (λ (n : List ℕ). n ≢ []) name names some))
 
 -- names in a row are their words
 pub row-words : (names : List (List ℕ)) → All (λ name. name ≢ []) names → words (in_a_row names) ≡ Some (map argument names)
@@ -108,9 +108,9 @@ gap-run (Bare word) [] gap rest ws ends is =
     rw ends (ap (λ (us : List (List ℕ)). option_map (λ vs. us ++ vs) (words_from Between rest)) one)
 gap-run (Bare word) (b ∷ bs) gap rest ws ends is = elim (cases_Bool (ends_word b)) [
   | inl gap_byte ↦
-    let told : option_map (λ vs. word ∷ vs) (words_from Between bs) ≡ Some ws = rw gap_byte at is in
-    let parts = map-some word (words_from Between bs) ws told in
-    rw gap_byte
+      let told : option_map (λ vs. word ∷ vs) (words_from Between bs) ≡ Some ws = rw gap_byte at is in
+      let parts = map-some word (words_from Between bs) ws told in
+      rw gap_byte
       (ap (option_map (λ vs. word ∷ vs)) (gap-run Between bs gap rest parts.0 ends parts.1)
       ∙ map-twice word parts.0 (words_from Between rest)
       ∙ ap (λ (us : List (List ℕ)). option_map (λ vs. us ++ vs) (words_from Between rest)) parts.2)

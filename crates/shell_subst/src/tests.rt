@@ -77,7 +77,11 @@ fn makes(
 }
 
 fn same_texts(texts: &[Text], want: &[&str]) -> bool {
-    texts.len() == want.len() && texts.iter().zip(want).all(|(text, want)| text.as_str() == *want)
+    texts.len() == want.len()
+        && texts
+            .iter()
+            .zip(want)
+            .all(|(text, want)| text.as_str() == *want)
 }
 
 #[test]
@@ -87,19 +91,42 @@ fn commands_are_made(rt: HostRuntime) -> Result<(), Fail> {
     let cases: [(&str, &[&str]); 16] = [
         ("grep -n x *", &["grep -n x ./-v 'a b' 'it'\\''s'"]),
         ("cat ?", &["cat ./-v", "cat 'a b'", "cat 'it'\\''s'"]),
-        ("cat `?`.bak", &["cat ./-v.bak", "cat 'a b'.bak", "cat 'it'\\''s'.bak"]),
-        ("ls a*b", &["ls a*b ./-v", "ls a*b 'a b'", "ls a*b 'it'\\''s'"]),
+        (
+            "cat `?`.bak",
+            &["cat ./-v.bak", "cat 'a b'.bak", "cat 'it'\\''s'.bak"],
+        ),
+        (
+            "ls a*b",
+            &["ls a*b ./-v", "ls a*b 'a b'", "ls a*b 'it'\\''s'"],
+        ),
         ("ls x?", &["ls x? ./-v", "ls x? 'a b'", "ls x? 'it'\\''s'"]),
         ("*", &["./-v 'a b' 'it'\\''s'"]),
         (" * ", &[" ./-v 'a b' 'it'\\''s' "]),
         ("a\t*\tb", &["a\t./-v 'a b' 'it'\\''s'\tb"]),
         ("* x *", &["./-v 'a b' 'it'\\''s' x ./-v 'a b' 'it'\\''s'"]),
-        ("a\n* b", &["a\n* b ./-v", "a\n* b 'a b'", "a\n* b 'it'\\''s'"]),
-        ("mv ? ?.o ?", &["mv ./-v ?.o ./-v", "mv 'a b' ?.o 'a b'", "mv 'it'\\''s' ?.o 'it'\\''s'"]),
+        (
+            "a\n* b",
+            &["a\n* b ./-v", "a\n* b 'a b'", "a\n* b 'it'\\''s'"],
+        ),
+        (
+            "mv ? ?.o ?",
+            &[
+                "mv ./-v ?.o ./-v",
+                "mv 'a b' ?.o 'a b'",
+                "mv 'it'\\''s' ?.o 'it'\\''s'",
+            ],
+        ),
         ("?", &["./-v", "'a b'", "'it'\\''s'"]),
         ("`?`?`", &["./-v?`", "'a b'?`", "'it'\\''s'?`"]),
         ("``?` ??", &["`./-v ??", "`'a b' ??", "`'it'\\''s' ??"]),
-        ("? a* ** ?", &["./-v a* ** ./-v", "'a b' a* ** 'a b'", "'it'\\''s' a* ** 'it'\\''s'"]),
+        (
+            "? a* ** ?",
+            &[
+                "./-v a* ** ./-v",
+                "'a b' a* ** 'a b'",
+                "'it'\\''s' a* ** 'it'\\''s'",
+            ],
+        ),
         ("Ö *", &["Ö ./-v 'a b' 'it'\\''s'"]),
     ];
     for (text, want) in cases {

@@ -10,9 +10,11 @@ returns-in_default c =
       | then-after_blank w ↦ search rules
       | else-after_blank w ↦ search rules
     ] in
-    let stays = char-stays c.args.after_blank c.in_ok-c.c c.args.text.now c.in_ok-c.later.now (c.in_ok-c.ensures).0 in
-    (elim c.in_default.branch [
-      | in_default-via-in-42+else-is_alone w ↦ stays (inl (sym alone ∙ w.if-is_alone.false)) (inr (λ e. omega arith)) (λ e. omega arith)
-      | in_default-via-in-63+else-is_alone-2 w ↦ stays (inr (λ e. omega arith)) (inl (sym alone ∙ w.if-is_alone-2.false)) (λ e. omega arith)
-      | in_default-via-in_default-1 w ↦ stays (inr (λ e. omega arith)) (inr (λ e. omega arith)) (λ e. omega arith)
-    ], (c.in_ok-c.ensures).1)
+    let stays = char-stays c.args.after_blank c.in_ok-c.c c.args.text.now c.in_ok-c.later.now (c.in_ok-c.ensures).0 in (
+      elim c.in_default.branch [
+        | in_default-via-in-42+else-is_alone w ↦ stays (inl (sym alone ∙ w.if-is_alone.false)) (inr (λ e. omega arith)) (λ e. omega arith)
+        | in_default-via-in-63+else-is_alone-2 w ↦ stays (inr (λ e. omega arith)) (inl (sym alone ∙ w.if-is_alone-2.false)) (λ e. omega arith)
+        | in_default-via-in_default-1 w ↦ stays (inr (λ e. omega arith)) (inr (λ e. omega arith)) (λ e. omega arith)
+      ],
+      (c.in_ok-c.ensures).1,
+    )

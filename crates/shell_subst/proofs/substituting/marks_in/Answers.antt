@@ -20,8 +20,7 @@ loop-token-preserved c =
       | in-AllNames w ↦ rw (w.in-AllNames.is, w.marks-is) (sym (or_false old.one_name))
       | in-OneName w ↦ rw (w.in-OneName.is, w.marks-is) (sym (or_true old.one_name))
       | in-Char w ↦ rw (w.in-Char.is, w.marks-is, char-no-one w.in-Char.field-0) (sym (or_false old.one_name))
-    ] in
-    (
+    ] in (
       search rules,
       rw (← all, c.is_blank-after_blank.ensures) (found-past is_all_names (list_any is_all_names (pieces c.args.text.now)) old.all_names c.loop-token.after_blank c.loop-token.rest.now c.in-Some.later.now c.in-Some.token c.loop-token.invariant.1 c.in-Some.ensures),
       rw (← one, c.is_blank-after_blank.ensures) (found-past is_one_name (list_any is_one_name (pieces c.args.text.now)) old.one_name c.loop-token.after_blank c.loop-token.rest.now c.in-Some.later.now c.in-Some.token c.loop-token.invariant.2 c.in-Some.ensures),
