@@ -1,3 +1,4 @@
+pub mod MarkLemmas
 pub mod QuoteLemmas
 pub mod ScanLemmas
 pub mod Utf8Lemmas

@@ -1,5 +1,5 @@
 -- What the words on pieces compute to, token by token.
-use Rattle.std.proofs.Common.{◌≡◌, ◌≢◌, ◌⊎◌, inl, inr, ℕ, ◌<◌, ◌≤◌, Bool, false, true, ◌&&◌, ◌||◌, ◌==◌, List, [], ◌∷◌, ◌++◌, length, map, refl, sym, ◌∙◌, ap, subst, arith, All, flat_map, encode_utf8, append_assoc}
+use Rattle.std.proofs.Common.{◌≡◌, ◌≢◌, ◌⊎◌, inl, inr, ℕ, ◌<◌, ◌≤◌, Bool, false, true, ◌&&◌, ◌||◌, ◌==◌, List, [], ◌∷◌, ◌++◌, length, map, refl, sym, ◌∙◌, ap, arith, All, flat_map, encode_utf8, append_assoc}
 use Rattle.std.specs.List.{list_any}
 use Rattle.std.proofs.lemmas.Bool.{cases_lt, ne_eqb, and_right}
 use Rattle.std.proofs.lemmas.List.Concat.{flat_map-append}
@@ -7,7 +7,7 @@ use Rattle.std.proofs.lemmas.List.Elements.{All-head, All-tail}
 use Rattle.std.proofs.lemmas.List.Folds.{list_any-append}
 use Rattle.std.proofs.lemmas.Str.{encode_ascii}
 use Rattle.shell_subst.proofs.Utf8Lemmas.{encode-high, encode-some}
-use Rattle.shell_subst.specs.Commands.{Piece, Byte, AllNames, OneName, is_all_names, is_one_name, is_blank, is_blank_next, pieces_from, put}
+use Rattle.shell_subst.specs.Commands.{Piece, Byte, is_all_names, is_one_name, is_blank, is_blank_next, pieces_from, put}
 use Rattle.shell_subst.specs.Scan.{token_pieces, is_blank_token, Cuts}
 use Rattle.shell_subst.specs.declared.scanning.Token.{Token}
 

@@ -1,6 +1,7 @@
 //! The commands that Dired's `!` hands to the shell (GNU Emacs Manual, "Shell Commands in Dired").
 #![tactic(auto)]
 
+mod mark_laws;
 mod quoting;
 mod scanning;
 mod substituting;
@@ -8,6 +9,7 @@ mod substituting;
 mod tests;
 mod word_laws;
 
+pub use mark_laws::marks_stand_alone;
 pub use quoting::quote;
 pub use substituting::{SubstFault, commands};
 pub use word_laws::{

@@ -1,4 +1,4 @@
-use Rattle.std.proofs.Common.{◌≡◌, ◌++◌, sym, ap, ◌∙◌, arith, append_assoc, flat_map, encode_utf8_all, encode_utf8}
+use Rattle.std.proofs.Common.{◌++◌, sym, ap, ◌∙◌, arith, append_assoc, flat_map, encode_utf8_all, encode_utf8}
 use Rattle.std.specs.String.{string_bytes}
 use Rattle.shell_subst.specs.Quoting.{within_quotes}
 use Rattle.shell_subst.proofs.QuoteLemmas.{within-push, within-other}

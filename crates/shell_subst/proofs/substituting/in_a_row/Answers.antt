@@ -1,4 +1,4 @@
-use Rattle.std.proofs.Common.{◌≡◌, ◌++◌, ◌<◌, [], ◌∷◌, get_or, length, sym, ap, ◌∙◌}
+use Rattle.std.proofs.Common.{◌≡◌, ◌++◌, ◌<◌, [], ◌∷◌, get_or, length, ap, ◌∙◌}
 use Rattle.std.specs.String.{string_bytes}
 use Rattle.shell_subst.specs.Quoting.{quoted}
 use Rattle.shell_subst.proofs.QuoteLemmas.{row-first, row-later}

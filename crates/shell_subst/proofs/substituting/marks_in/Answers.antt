@@ -1,9 +1,7 @@
-use Rattle.std.proofs.Common.{◌≡◌, ◌||◌, sym, ap, ◌∙◌, rules}
+use Rattle.std.proofs.Common.{◌≡◌, ◌||◌, sym, rules}
 use Rattle.std.specs.List.{list_any}
-use Rattle.shell_subst.specs.Commands.{is_all_names, is_one_name, pieces, pieces_from}
-use Rattle.shell_subst.specs.Scan.{token_pieces, is_blank_token}
-use Rattle.shell_subst.specs.declared.scanning.Token.{Token}
-use Rattle.shell_subst.specs.declared.substituting.Marks.{Marks}
+use Rattle.shell_subst.specs.Commands.{is_all_names, is_one_name, pieces}
+use Rattle.shell_subst.specs.Scan.{token_pieces}
 use Rattle.shell_subst.proofs.ScanLemmas.{found-past, or_true, or_false, char-no-all, char-no-one}
 use Rattle.shell_subst.proofs.substituting.marks_in.Goals as goal
 use Rattle.shell_subst.proofs.substituting.marks_in.Goals.{in-AllNames, in-OneName, in-Char}
