@@ -1,3 +1,4 @@
+pub mod FillLemmas
 pub mod MarkLemmas
 pub mod QuoteLemmas
 pub mod ScanLemmas

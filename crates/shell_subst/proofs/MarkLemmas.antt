@@ -7,7 +7,7 @@ use Rattle.shell_subst.specs.Commands.{Piece, Byte, AllNames, OneName, is_all_na
 use Rattle.shell_subst.specs.Marks.{is_blank_last, StandsAlone, StandsInBackquotes}
 
 -- what stands at the head of a text
-data Head (start : Bool) (b : ℕ) (bs : List ℕ) : Type 0 where
+pub data Head (start : Bool) (b : ℕ) (bs : List ℕ) : Type 0 where
   Star : b ≡ 42 → start ≡ true → is_blank_next bs ≡ true → pieces_from start 0 (b ∷ bs) ≡ AllNames ∷ pieces_from false 0 bs → Head start b bs
   Question : b ≡ 63 → start ≡ true → is_blank_next bs ≡ true → pieces_from start 0 (b ∷ bs) ≡ OneName ∷ pieces_from false 0 bs → Head start b bs
   Ticks : (rest : List ℕ) → b ≡ 96 → bs ≡ 63 ∷ 96 ∷ rest → pieces_from start 0 (b ∷ bs) ≡ OneName ∷ pieces_from false 2 bs → Head start b bs
@@ -26,7 +26,7 @@ ticked-parts b (c ∷ d ∷ rest) e =
     let d_is : d ≡ 96 = eqb-true d 96 third.0 in
     (rest, eqb-true b 96 first.0, rw (c_is, d_is) refl)
 
-head : (start : Bool) (b : ℕ) (bs : List ℕ) → Head start b bs
+pub head : (start : Bool) (b : ℕ) (bs : List ℕ) → Head start b bs
 head start b bs = elim (cases_Bool ((start && is_blank_next bs) && b == 42)) [
   | inl star ↦
       let parts = and_parts (start && is_blank_next bs) (b == 42) star in
@@ -96,14 +96,14 @@ one-stands start zero (b ∷ bs) found = elim (head start b bs) [
 ]
 
 -- behind a byte of a mark no whitespace is told
-no_blank : (b mark : ℕ) (bs : List ℕ) → b ≡ mark → is_blank mark ≡ false → is_blank_last (is_blank b) bs ≡ true → is_blank_last false bs ≡ true
+pub no_blank : (b mark : ℕ) (bs : List ℕ) → b ≡ mark → is_blank mark ≡ false → is_blank_last (is_blank b) bs ≡ true → is_blank_last false bs ≡ true
 no_blank b mark bs is other last = subst (λ (x : Bool). is_blank_last x bs ≡ true) (ap is_blank is ∙ other) last
 
 -- a byte that stands alone makes its mark
-star-first : (start : Bool) (after : List ℕ) → start ≡ true → is_blank_next after ≡ true → pieces_from start 0 (42 ∷ after) ≡ AllNames ∷ pieces_from false 0 after
+pub star-first : (start : Bool) (after : List ℕ) → start ≡ true → is_blank_next after ≡ true → pieces_from start 0 (42 ∷ after) ≡ AllNames ∷ pieces_from false 0 after
 star-first start after begins next = rw (begins, next) refl
 
-question-first : (start : Bool) (after : List ℕ) → start ≡ true → is_blank_next after ≡ true → pieces_from start 0 (63 ∷ after) ≡ OneName ∷ pieces_from false 0 after
+pub question-first : (start : Bool) (after : List ℕ) → start ≡ true → is_blank_next after ≡ true → pieces_from start 0 (63 ∷ after) ≡ OneName ∷ pieces_from false 0 after
 question-first start after begins next = rw (begins, next) refl
 
 ticks-first : (start : Bool) (after : List ℕ) → pieces_from start 0 (96 ∷ 63 ∷ 96 ∷ after) ≡ OneName ∷ pieces_from false 2 (63 ∷ 96 ∷ after)

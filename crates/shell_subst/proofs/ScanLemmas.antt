@@ -16,7 +16,7 @@ not_mark is_alone c mark (inl none) = rw none refl
 not_mark is_alone c mark (inr other) = and_right is_alone (c == mark) (ne_eqb c mark other)
 
 -- a byte that begins no mark stays
-stays : (after_blank : Bool) (b : ℕ) (bs : List ℕ) → ((after_blank && is_blank_next bs) ≡ false) ⊎ (b ≢ 42) → ((after_blank && is_blank_next bs) ≡ false) ⊎ (b ≢ 63) → b ≢ 96 → pieces_from after_blank 0 (b ∷ bs) ≡ Byte b ∷ pieces_from (is_blank b) 0 bs
+pub stays : (after_blank : Bool) (b : ℕ) (bs : List ℕ) → ((after_blank && is_blank_next bs) ≡ false) ⊎ (b ≢ 42) → ((after_blank && is_blank_next bs) ≡ false) ⊎ (b ≢ 63) → b ≢ 96 → pieces_from after_blank 0 (b ∷ bs) ≡ Byte b ∷ pieces_from (is_blank b) 0 bs
 stays after_blank b bs star question tick =
     rw (not_mark (after_blank && is_blank_next bs) b 42 star, not_mark (after_blank && is_blank_next bs) b 63 question, ne_eqb b 96 tick) refl
 

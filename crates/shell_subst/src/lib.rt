@@ -9,7 +9,7 @@ mod substituting;
 mod tests;
 mod word_laws;
 
-pub use mark_laws::marks_stand_alone;
+pub use mark_laws::{marks_are_replaced, marks_stand_alone};
 pub use quoting::quote;
 pub use substituting::{SubstFault, commands};
 pub use word_laws::{
