@@ -1,0 +1,5 @@
+pub mod Commands
+pub mod Marks
+pub mod Quoting
+pub mod Scan
+pub mod ShellWords
