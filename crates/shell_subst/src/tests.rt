@@ -1,6 +1,7 @@
 use super::*;
-use dired_text::Text;
+use dired_text::{Memory, Text};
 use std::alloc::Global;
+use std::process::Command;
 use std::test::Fail;
 
 // Whether the name is quoted as this text.
@@ -150,6 +151,52 @@ fn commands_are_refused(rt: HostRuntime) -> Result<(), Fail> {
     ];
     for (text, names, want) in cases {
         assert!(rt; makes(alloc, text, names, Err(want))?, "{text}");
+    }
+    Ok(())
+}
+
+// A name of 1 to 12 characters of ASCII, none of them NUL, or among them one beyond ASCII.
+fn some_name(alloc: Global, state: &mut u64) -> Result<String, Memory> {
+    let mut name = String::new(alloc);
+    let count = next_number(state) % 12 + 1;
+    for _ in 0..count {
+        let code = (next_number(state) % 128) as u8;
+        let c = if code == 0 { 'é' } else { char::from(code) };
+        name.push(c)?;
+    }
+    Ok(name)
+}
+
+// The next number of a linear congruential generator (Knuth, MMIX).
+fn next_number(state: &mut u64) -> u64 {
+    *state = state
+        .wrapping_mul(6364136223846793005)
+        .wrapping_add(1442695040888963407);
+    *state >> 33
+}
+
+// `sh` itself is handed 1,000 names, and what arrives is compared byte for byte.
+#[test]
+fn the_shell_reads_each_name_back(rt: HostRuntime) -> Result<(), Fail> {
+    let alloc = rt.alloc();
+    let mut state = 1;
+    for _ in 0..10 {
+        let mut text = String::from_str(alloc, "printf '%s\\000'")?;
+        let mut wanted = Vec::new(alloc);
+        for _ in 0..100 {
+            let name = some_name(alloc, &mut state)?;
+            text.push_str(" ")?;
+            text.push_str(quote(alloc, name.as_str())?.as_str())?;
+            if name.as_bytes().first() == Some(&b'-') {
+                wanted.extend_from_slice(b"./")?;
+            }
+            wanted.extend_from_slice(name.as_bytes())?;
+            wanted.push(0)?;
+        }
+        let mut command = Command::new(alloc, "sh")?;
+        command.arg("-c")?.arg(text.as_str())?;
+        let output = command.output(&rt)?;
+        assert_eq!(rt; output.stdout.as_slice(), wanted.as_slice());
     }
     Ok(())
 }
