@@ -203,52 +203,23 @@ fn commits_and_refusals(rt: HostRuntime) -> Result<(), Fail> {
 fn words_inputs_and_output(rt: HostRuntime) -> Result<(), Fail> {
     let alloc = rt.alloc();
     let usage = "dired: usage: list, commit, run, recover or drill\n";
-    let cases = [
-        (["commit", "B", ""], 2, 0, 9, 1, usage, "ab"),
-        (
-            ["commit", "B", "C"],
-            3,
-            0,
-            9,
-            6,
-            "dired: no such input: C\n",
-            "ab",
-        ),
-        (
-            ["commit", "\n", "A"],
-            3,
-            0,
-            9,
-            6,
-            "dired: no such input: \\n\n",
-            "ab",
-        ),
-        (["commits", "B", "A"], 3, 0, 9, 1, usage, "ab"),
-        (
-            ["commit", "B", "A"],
-            3,
-            1,
-            9,
-            3,
-            "dired: cannot read A\n",
-            "ab",
-        ),
-        (["commit", "B", "A"], 3, 0, 0, 5, "", "bc"),
+    let missing = "dired: no such input: C\n";
+    let escaped = "dired: no such input: \\n\n";
+    let unread = "dired: cannot read A\n";
+    let cases: [(&[&str], &[u64], &[u64], u8, &str, &str); 6] = [
+        (&["commit", "B"], &[], &[], 1, usage, "ab"),
+        (&["commits", "B", "A"], &[], &[], 1, usage, "ab"),
+        (&["commit", "B", "C"], &[], &[], 6, missing, "ab"),
+        (&["commit", "\n", "A"], &[], &[], 6, escaped, "ab"),
+        (&["commit", "B", "A"], &[1], &[], 3, unread, "ab"),
+        (&["commit", "B", "A"], &[], &[0], 5, "", "bc"),
     ];
-    for (words, count, fail_read, fail_write, number, output, left) in cases {
+    for (words, fail_reads, fail_writes, number, output, left) in cases {
         let mut tree = tree_of(alloc, &["a", "b"], 0o644)?;
-        let fail = [fail_read];
-        let reads: &[u64] = if number == 3 { &fail } else { &[] };
-        let mut shelf = shelf_of(alloc, BEFORE, RENAMED, reads)?;
-        let mut sink = MemSink::new(alloc, Vec::from_slice(alloc, &[fail_write])?)?;
+        let mut shelf = shelf_of(alloc, BEFORE, RENAMED, fail_reads)?;
+        let mut sink = MemSink::new(alloc, Vec::from_slice(alloc, fail_writes)?)?;
         assert!(rt; settle(&mut tree));
-        let status = try_run(
-            alloc,
-            words.get(..count).unwrap_or(&[]),
-            &mut tree,
-            &mut shelf,
-            &mut sink,
-        )?;
+        let status = try_run(alloc, words, &mut tree, &mut shelf, &mut sink)?;
         assert_eq!(rt; status.number(), number, "at {output}");
         assert_eq!(rt; sink.taken(), output.as_bytes());
         assert_eq!(rt; standing(alloc, &mut tree)?.as_str(), left, "at {output}");
@@ -264,105 +235,43 @@ fn words_inputs_and_output(rt: HostRuntime) -> Result<(), Fail> {
 #[test]
 fn each_call_fails(rt: HostRuntime) -> Result<(), Fail> {
     let alloc = rt.alloc();
-    let cases = [
-        (
-            Some(0),
-            None,
-            "dired: kind failed; nothing was decided\n",
-            "ab",
-            2,
-        ),
-        (
-            Some(1),
-            None,
-            "dired: mode failed; nothing was decided\n",
-            "ab",
-            2,
-        ),
-        (
-            Some(2),
-            None,
-            "dired: kind failed; nothing was decided\n",
-            "ab",
-            2,
-        ),
-        (
-            None,
-            Some((0, false)),
-            "dired: sync failed; nothing was decided\n",
-            "ab",
-            2,
-        ),
-        (
-            None,
-            Some((0, true)),
-            "dired: sync failed; nothing was decided\n",
-            "ab",
-            2,
-        ),
-        (
-            None,
-            Some((1, false)),
-            "dired: rename failed; nothing was decided\n",
-            "ab",
-            2,
-        ),
-        (
-            None,
-            Some((1, true)),
-            "dired: rename failed; nothing was decided\n",
-            "bc",
-            4,
-        ),
-        (
-            None,
-            Some((2, false)),
-            "dired: sync failed; nothing was decided\n",
-            "bc",
-            4,
-        ),
-        (
-            None,
-            Some((2, true)),
-            "dired: sync failed; nothing was decided\n",
-            "bc",
-            2,
-        ),
+    // The looks that fail, the changing calls that fail, where the sync of `settle` is call 0, the name of the call, the
+    // files that stand, and how many images there are.
+    let cases: [(&[u64], &[(u64, bool)], &str, &str, usize); 9] = [
+        (&[0], &[], "kind", "ab", 2),
+        (&[1], &[], "mode", "ab", 2),
+        (&[2], &[], "kind", "ab", 2),
+        (&[], &[(1, false)], "sync", "ab", 2),
+        (&[], &[(1, true)], "sync", "ab", 2),
+        (&[], &[(2, false)], "rename", "ab", 2),
+        (&[], &[(2, true)], "rename", "bc", 4),
+        (&[], &[(3, false)], "sync", "bc", 4),
+        (&[], &[(3, true)], "sync", "bc", 2),
     ];
-    for (look, change, output, left, image_count) in cases {
+    for (looks, changes, call, left, image_count) in cases {
         let mut tree = tree_of(alloc, &["a", "b"], 0o644)?;
         let mut shelf = shelf_of(alloc, BEFORE, RENAMED, &[])?;
         let mut sink = MemSink::new(alloc, Vec::new(alloc))?;
-        if let Some(call) = change {
-            // The sync of `settle` is call 0.
-            tree.fail_changes(&[(call.0 + 1, call.1)])?;
-        }
-        if let Some(call) = look {
-            tree.fail_looks(&[call])?;
-        }
+        tree.fail_changes(changes)?;
+        tree.fail_looks(looks)?;
         assert!(rt; settle(&mut tree));
-        let status = try_run(
-            alloc,
-            &["commit", "B", "A"],
-            &mut tree,
-            &mut shelf,
-            &mut sink,
-        )?;
-        assert_eq!(rt; status.number(), 4, "at {output}");
+        let words = ["commit", "B", "A"];
+        let status = try_run(alloc, &words, &mut tree, &mut shelf, &mut sink)?;
+        let output = format!(in alloc; "dired: {call} failed; nothing was decided\n")?;
+        assert_eq!(rt; status.number(), 4, "at {call}");
         assert_eq!(rt; sink.taken(), output.as_bytes());
         assert_eq!(rt; tree.short(), 0);
         tree.fail_looks(&[])?;
-        assert_eq!(rt; standing(alloc, &mut tree)?.as_str(), left, "at {output}");
-        let mut count = 0;
-        for mut image in tree.images()? {
+        assert_eq!(rt; standing(alloc, &mut tree)?.as_str(), left, "at {call}");
+        let images = tree.images()?;
+        assert_eq!(rt; images.len(), image_count, "at {call}");
+        for mut image in images {
             let names = standing(alloc, &mut image)?;
             assert!(rt;
                 names.as_str() == "ab" || names.as_str() == "bc",
-                "at {output}"
+                "at {call}"
             );
-            count += 1;
         }
-        assert_eq!(rt; count, image_count, "at {output}");
     }
     Ok(())
 }
