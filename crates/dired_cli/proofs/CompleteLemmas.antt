@@ -1,24 +1,21 @@
 -- What is well formed is done, unless a call of the outside fails or memory runs out.
-use Rattle.std.proofs.Common.{◌≡◌, ◌⊎◌, inl, inr, ⊎_elim, ℕ, ◌+◌, ◌<◌, ◌≤◌, min, Bool, true, false, cond, List, [], ◌∷◌, length, refl, sym, ◌∙◌, ap, subst, arith, Option, Some, None, is_some, Result, Ok, Err, nat_lt, if◌then◌else◌}
+use Rattle.std.proofs.Common.{◌≡◌, ◌⊎◌, inl, inr, ⊎_elim, ℕ, ◌≤◌, false, List, [], ◌∷◌, length, refl, ◌∙◌, ap, arith, Some, is_some, Ok, nat_lt}
 use Rattle.std.proofs.lemmas.Bool.{cond-true, cond-false, le-ltb}
 use Rattle.std.specs.FinMap.{get}
-use Rattle.dired_text.specs.Counts.{raised, Rose, Stayed}
+use Rattle.dired_text.specs.Counts.{raised, Stayed}
 use Rattle.tree_core.specs.declared.edit.Edit.{Edit}
 use Rattle.tree_core.specs.FileTree.{FileTree}
-use Rattle.tree_core.specs.History.{History, current_tree}
-use Rattle.tree_core.specs.Faults.{with_fault, TreeHeld}
+use Rattle.tree_core.specs.Faults.{TreeHeld}
 use Rattle.tree_core.specs.declared.faults.Faults.{Faults}
 use Rattle.wdired_buffer.specs.declared.line.BufferLine.{BufferLine}
 use Rattle.wdired_buffer.specs.Edits.{edits_of}
-use Rattle.dired_cli.specs.declared.status.Counted.TheVariants.{BufferBytes}
 use Rattle.dired_cli.specs.declared.status.Status.{Status}
 use Rattle.dired_cli.specs.declared.status.Status.TheVariants.{Done, Usage, Memory, ReadFault, TreeFault, WriteFault, Missing, Faulty, Stale, TooLarge, NotBuilt}
-use Rattle.dired_cli.specs.Statuses.{number_of}
 use Rattle.dired_cli.specs.Inputs.{Files, input_of, bytes_or_refusal, max_buffer_bytes}
-use Rattle.dired_cli.specs.Requests.{Asked, request_of, of_inputs, asked_by, of_buffer, of_edits, only_change, is_in_root, path_or_root}
+use Rattle.dired_cli.specs.Requests.{of_inputs, of_buffer, of_edits, only_change, is_in_root, path_or_root}
 use Rattle.dired_cli.specs.Reports.{Said}
-use Rattle.dired_cli.specs.Verdicts.{Verdict, status_of, edited, on_tree, is_file_of}
-use Rattle.dired_cli.specs.Runs.{Outside, Decides, verdict, of_request, line_of}
+use Rattle.dired_cli.specs.Verdicts.{Verdict, status_of, is_file_of}
+use Rattle.dired_cli.specs.Runs.{Outside, Decides, verdict, of_request}
 use Rattle.dired_cli.specs.WellFormed.{IsAllowed, IsWellFormed}
 
 within : (n m : ℕ) → n ≤ m → nat_lt m n ≡ false

@@ -1,5 +1,5 @@
 -- A buffer has no more lines than bytes.
-use Rattle.std.proofs.Common.{◌≡◌, ◌⊎◌, inl, inr, ◌==◌, ◌&&◌, ℕ, ◌+◌, ◌≤◌, nat_le, Bool, true, false, cond, List, [], ◌∷◌, ◌++◌, length, take, drop, refl, sym, ◌∙◌, ap, subst, arith, length-append, Option, Some, None, Result, Ok, Err, if◌then◌else◌, codes}
+use Rattle.std.proofs.Common.{◌≡◌, ◌==◌, ℕ, ◌+◌, ◌≤◌, nat_le, Bool, true, false, cond, List, [], ◌∷◌, ◌++◌, length, refl, sym, ◌∙◌, ap, arith, length-append, Option, Some, None, Result, Ok, Err}
 use Rattle.dired_text.specs.Resolve.{with_first}
 use Rattle.listing_text.specs.declared.plain.Plain.{Plain}
 use Rattle.listing_text.specs.PlainLines.{plain_line}
@@ -7,7 +7,7 @@ use Rattle.wdired_buffer.specs.declared.faults.BufferFault.{BufferFault}
 use Rattle.wdired_buffer.specs.declared.faults.BufferFault.TheVariants.{NotBuilt}
 use Rattle.wdired_buffer.specs.declared.line.BufferLine.{BufferLine}
 use Rattle.wdired_buffer.specs.declared.line.BufferLine.TheVariants.{Fixed}
-use Rattle.wdired_buffer.specs.Lines.{lines, newline, then_later, in_front}
+use Rattle.wdired_buffer.specs.Lines.{lines, newline, then_later}
 use Rattle.wdired_buffer.specs.Buffer.{buffer_of, lines_from, line_of, is_head, entry_of, entry_or_fault}
 
 length-with_first : (b : ℕ) (cs : List (List ℕ)) (n : ℕ) → length cs ≤ n → length (with_first b cs) ≤ n + 1

@@ -1,16 +1,15 @@
 -- When a file in the root can get a new name there.
-use Rattle.std.proofs.Common.{◌≡◌, ◌⊎◌, inl, inr, ℕ, ◌+◌, ◌-◌, Bool, true, false, cond, List, [], ◌∷◌, ◌++◌, length, take, refl, sym, ◌∙◌, ap, subst, arith, length-append, Option, Some, None, is_some, IsTrue, if◌then◌else◌}
+use Rattle.std.proofs.Common.{◌≡◌, ℕ, ◌+◌, ◌-◌, Bool, true, false, [], ◌∷◌, ◌++◌, length, take, refl, sym, ◌∙◌, ap, subst, arith, length-append, Option, Some, None, is_some, IsTrue, if◌then◌else◌}
 use Rattle.std.proofs.lemmas.List.{append-nil}
 use Rattle.std.specs.FinMap.{get}
-use Rattle.dired_text.specs.Paths.{Names, rest_below, parent}
+use Rattle.dired_text.specs.Paths.{Names, rest_below}
 use Rattle.dired_text.proofs.PathLemmas.{rest_below-some}
 use Rattle.tree_core.specs.declared.node.Node.{Node}
-use Rattle.tree_core.specs.declared.node.Node.TheVariants.{Dir, Link, File}
-use Rattle.tree_core.specs.FileTree.{FileTree, IsTree, IsDir, Stands, CanRename}
+use Rattle.tree_core.specs.FileTree.{FileTree, IsTree, IsDir, CanRename}
 use Rattle.tree_core.specs.History.{History, current_tree}
 use Rattle.dired_cli.specs.declared.commit.NameChange.{NameChange}
 use Rattle.dired_cli.specs.declared.status.Status.{Status}
-use Rattle.dired_cli.specs.Verdicts.{Verdict, Refuses, Renames, on_tree, is_file_of}
+use Rattle.dired_cli.specs.Verdicts.{Refuses, Renames, on_tree, is_file_of}
 
 file_stands : (o : Option Node) (mode : ℕ) → is_file_of mode o ≡ true → IsTrue (is_some o)
 file_stands None mode e = cc

@@ -1,8 +1,7 @@
 -- The moments of the commit of one rename.
-use Rattle.std.proofs.Common.{◌≡◌, ◌⊎◌, inl, inr, ⊎_elim, Bool, false, refl, sym, ap, subst, Result, is_err}
+use Rattle.std.proofs.Common.{◌≡◌, inl, inr, ⊎_elim, false, refl, sym, subst, Result, is_err}
 use Rattle.dired_text.specs.declared.text.Failed.{Failed}
 use Rattle.dired_text.specs.Paths.{Names}
-use Rattle.tree_core.specs.declared.node.Change.{Change}
 use Rattle.tree_core.specs.declared.node.Change.TheVariants.{Rename, Sync}
 use Rattle.tree_core.specs.FileTree.{FileTree, renamed}
 use Rattle.tree_core.specs.History.{History, Then, current_tree, IsDurable, LeavesOnly, Changes}

@@ -1,5 +1,5 @@
 -- One piece of a text after another.
-use Rattle.std.proofs.Common.{◌≡◌, ◌⊎◌, inl, inr, ℕ, ◌+◌, ◌≤◌, Bool, false, List, ◌++◌, length, take, refl, sym, ◌∙◌, ap, subst, codes, arith, append_assoc, length-append, Result, Ok, Err}
+use Rattle.std.proofs.Common.{◌≡◌, ℕ, ◌+◌, List, ◌++◌, length, take, sym, ◌∙◌, ap, subst, codes, arith, append_assoc, length-append, Result, Ok, Err}
 use Rattle.std.proofs.lemmas.List.{take-append-le}
 use Rattle.std.proofs.Math.Seq.{take-append-add}
 use Rattle.dired_text.specs.declared.text.Failed.{Failed}

@@ -1,16 +1,15 @@
 -- From the end of a command to the answer of a run.
-use Rattle.std.proofs.Common.{◌≡◌, ◌⊎◌, inl, inr, ⊎_elim, ℕ, Bool, true, false, List, refl, sym, ◌∙◌, ap, subst, Option, Some, Result, Ok, Err, IfOk, IfErr, MatchResult}
+use Rattle.std.proofs.Common.{◌≡◌, inl, inr, ℕ, true, false, List, refl, sym, ◌∙◌, ap, subst, Option, Some, Result, Ok, Err, IfOk, IfErr, MatchResult}
 use Rattle.dired_text.specs.Counts.{raised}
-use Rattle.dired_text.specs.Outside.{TakesPartOf}
 use Rattle.tree_core.specs.FileTree.{FileTree}
-use Rattle.tree_core.specs.History.{History, current_tree, IsDurable}
+use Rattle.tree_core.specs.History.{current_tree, IsDurable}
 use Rattle.tree_core.specs.Faults.{with_fault}
 use Rattle.dired_cli.specs.declared.status.Status.{Status}
 use Rattle.dired_cli.specs.declared.status.Status.TheVariants.{Done, Usage, Memory, ReadFault, TreeFault, WriteFault, Missing, Faulty, Stale, TooLarge, NotBuilt}
 use Rattle.dired_cli.specs.Statuses.{number_of, text_of, has_fixed_text, ByCause, IsRefusal}
-use Rattle.dired_cli.specs.Reports.{Said, Reported, decided_of, output_of}
-use Rattle.dired_cli.specs.Verdicts.{Verdict, Refuses, Keeps, Renames, status_of, summary_of, edited, FaultLeaves, IsDone}
-use Rattle.dired_cli.specs.Runs.{Outside, SameFaults, Decides, line_of, may_follow_fault}
+use Rattle.dired_cli.specs.Reports.{Said, Reported}
+use Rattle.dired_cli.specs.Verdicts.{Verdict, Refuses, status_of, edited, FaultLeaves, IsDone}
+use Rattle.dired_cli.specs.Runs.{Outside, SameFaults, Decides, line_of}
 
 module _ (v : Verdict) (before now : Outside) (ended : Result (List ℕ) Status) where
   abbrev Old : FileTree

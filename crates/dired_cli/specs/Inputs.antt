@@ -1,5 +1,5 @@
 -- What is read.
-use Rattle.std.specs.Prelude.{◌≡◌, ℕ, ◌+◌, nat_lt, List, length, Option, Some, None, if◌then◌else◌, Result, Ok, Err}
+use Rattle.std.specs.Prelude.{ℕ, ◌+◌, nat_lt, List, length, Option, Some, None, if◌then◌else◌, Result, Ok, Err}
 use Rattle.dired_cli.specs.declared.status.Counted.TheVariants.{BufferBytes}
 use Rattle.dired_cli.specs.declared.status.Status.{Status}
 use Rattle.dired_cli.specs.declared.status.Status.TheVariants.{Missing, TooLarge}

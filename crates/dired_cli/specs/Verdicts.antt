@@ -1,5 +1,5 @@
 -- What is to become of the tree: a refusal, nothing, or one new name.
-use Rattle.std.specs.Prelude.{◌≡◌, ◌⊎◌, ℕ, ◌==◌, Bool, true, false, not, List, ◌++◌, codes, decimal, Option, Some, None, if◌then◌else◌, is_some, length}
+use Rattle.std.specs.Prelude.{◌≡◌, ◌⊎◌, ℕ, ◌==◌, Bool, false, List, ◌++◌, codes, decimal, Option, Some, None, if◌then◌else◌, is_some, length}
 use Rattle.std.specs.FinMap.{get}
 use Rattle.dired_text.specs.Paths.{Names}
 use Rattle.tree_core.specs.declared.node.CallName.{CallName}

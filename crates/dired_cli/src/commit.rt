@@ -31,12 +31,17 @@ pub fn commit_one<T: Tree>(tree: &mut T, from: &Path, to: &Path) -> Result<(), C
     requires can { T.Tells → CanRename (current_tree (T.history tree.old)) from.now to.now }
     requires durable { T.Tells → IsDurable (T.history tree.old) }
 
-    ensures done { T.Tells → MatchResult result (λ _. current_tree (T.history tree.new) ≡ renamed (current_tree (T.history tree.old)) from.now to.now)
-        (λ first. FaultLeaves first (current_tree (T.history tree.old)) (renamed (current_tree (T.history tree.old)) from.now to.now) (T.before_failed tree.new) (current_tree (T.history tree.new))) }
+    ensures done { T.Tells →
+        let old = current_tree (T.history tree.old) in
+        let now = current_tree (T.history tree.new) in
+        MatchResult result (λ _. now ≡ renamed old from.now to.now) (λ first. FaultLeaves first old (renamed old from.now to.now) (T.before_failed tree.new) now) }
     ensures durable { T.Tells → OnOk result (IsDurable (T.history tree.new)) }
-    ensures any_moment { T.Tells → LeavesOnly (T.history tree.old) (T.history tree.new)
-        (IsOldOrEdited (current_tree (T.history tree.old)) (renamed (current_tree (T.history tree.old)) from.now to.now)) }
-    ensures cause { MatchResult result (λ _. T.faults tree.new ≡ T.faults tree.old) (λ first. T.faults tree.new ≡ with_fault first (T.faults tree.old)) }
+    ensures any_moment { T.Tells →
+        let old = current_tree (T.history tree.old) in
+        LeavesOnly (T.history tree.old) (T.history tree.new) (IsOldOrEdited old (renamed old from.now to.now)) }
+    ensures cause { MatchResult result
+        (λ _. T.faults tree.new ≡ T.faults tree.old)
+        (λ first. T.faults tree.new ≡ with_fault first (T.faults tree.old)) }
 {
     if tree.sync().is_err() {
         return Err(CallName::Sync);
@@ -64,16 +69,23 @@ pub fn carry_out<T: Tree>(
     requires can { CanBeAsked asked }
     requires durable { T.Tells → IsDurable (T.history tree.old) }
 
-    ensures done { T.Tells → IfOk result (λ text. IsDone (on_tree asked (current_tree (T.history tree.old))) (current_tree (T.history tree.old)) (T.history tree.new) text) }
-    ensures refused { T.Tells → IfErr result (λ status. ByCause status
+    ensures done { T.Tells →
+        let old = current_tree (T.history tree.old) in
+        IfOk result (λ text. IsDone (on_tree asked old) old (T.history tree.new) text) }
+    ensures refused { T.Tells →
+        let old = current_tree (T.history tree.old) in
+        let v = on_tree asked old in
+        IfErr result (λ status. ByCause status
         (T.history tree.new ≡ T.history tree.old)
-        (λ first. FaultLeaves first (current_tree (T.history tree.old)) (edited (on_tree asked (current_tree (T.history tree.old))) (current_tree (T.history tree.old))) (T.before_failed tree.new) (current_tree (T.history tree.new)))
+        (λ first. FaultLeaves first old (edited v old) (T.before_failed tree.new) (current_tree (T.history tree.new)))
         (λ _. ⊥)
-        ((on_tree asked (current_tree (T.history tree.old)) ≡ Refuses status) × (T.history tree.new ≡ T.history tree.old))) }
-    ensures any_moment { T.Tells → LeavesOnly (T.history tree.old) (T.history tree.new)
-        (IsOldOrEdited (current_tree (T.history tree.old)) (edited (on_tree asked (current_tree (T.history tree.old))) (current_tree (T.history tree.old)))) }
-    ensures cause { MatchResult result (λ _. T.faults tree.new ≡ T.faults tree.old)
-        (λ status. ByCause status (T.faults tree.new ≡ T.faults tree.old) (λ first. T.faults tree.new ≡ with_fault first (T.faults tree.old)) (λ _. ⊥) (T.faults tree.new ≡ T.faults tree.old)) }
+        ((v ≡ Refuses status) × (T.history tree.new ≡ T.history tree.old))) }
+    ensures any_moment { T.Tells →
+        let old = current_tree (T.history tree.old) in
+        LeavesOnly (T.history tree.old) (T.history tree.new) (IsOldOrEdited old (edited (on_tree asked old) old)) }
+    ensures cause { let same = T.faults tree.new ≡ T.faults tree.old in
+        MatchResult result (λ _. same) (λ status. ByCause status
+        same (λ first. T.faults tree.new ≡ with_fault first (T.faults tree.old)) (λ _. ⊥) same) }
     ensures end { IfErr result IsRefusal }
 {
     match asked {
@@ -87,14 +99,18 @@ fn sync_alone<T: Tree>(alloc: Global, tree: &mut T) -> Result<Text, Status>
     requires durable { T.Tells → IsDurable (T.history tree.old) }
 
     ensures done { T.Tells → IfOk result (λ text. IsDone Keeps (current_tree (T.history tree.old)) (T.history tree.new) text) }
-    ensures refused { T.Tells → IfErr result (λ status. ByCause status
+    ensures refused { T.Tells →
+        let old = current_tree (T.history tree.old) in
+        IfErr result (λ status. ByCause status
         (T.history tree.new ≡ T.history tree.old)
-        (λ first. FaultLeaves first (current_tree (T.history tree.old)) (current_tree (T.history tree.old)) (T.before_failed tree.new) (current_tree (T.history tree.new)))
+        (λ first. FaultLeaves first old old (T.before_failed tree.new) (current_tree (T.history tree.new)))
         (λ _. ⊥) ⊥) }
-    ensures any_moment { T.Tells → LeavesOnly (T.history tree.old) (T.history tree.new)
-        (IsOldOrEdited (current_tree (T.history tree.old)) (current_tree (T.history tree.old))) }
-    ensures cause { MatchResult result (λ _. T.faults tree.new ≡ T.faults tree.old)
-        (λ status. ByCause status (T.faults tree.new ≡ T.faults tree.old) (λ first. T.faults tree.new ≡ with_fault first (T.faults tree.old)) (λ _. ⊥) ⊥) }
+    ensures any_moment { T.Tells →
+        let old = current_tree (T.history tree.old) in
+        LeavesOnly (T.history tree.old) (T.history tree.new) (IsOldOrEdited old old) }
+    ensures cause { let same = T.faults tree.new ≡ T.faults tree.old in
+        MatchResult result (λ _. same) (λ status. ByCause status
+        same (λ first. T.faults tree.new ≡ with_fault first (T.faults tree.old)) (λ _. ⊥) ⊥) }
     ensures end { IfErr result IsRefusal }
 {
     let Ok(text) = summary(alloc, 0) else {
@@ -114,16 +130,23 @@ fn commit_change<T: Tree>(alloc: Global, tree: &mut T, change: &NameChange) -> R
     requires to { length change.now.to ≡ 1 }
     requires durable { T.Tells → IsDurable (T.history tree.old) }
 
-    ensures done { T.Tells → IfOk result (λ text. IsDone (on_tree (Some change.now) (current_tree (T.history tree.old))) (current_tree (T.history tree.old)) (T.history tree.new) text) }
-    ensures refused { T.Tells → IfErr result (λ status. ByCause status
+    ensures done { T.Tells →
+        let old = current_tree (T.history tree.old) in
+        IfOk result (λ text. IsDone (on_tree (Some change.now) old) old (T.history tree.new) text) }
+    ensures refused { T.Tells →
+        let old = current_tree (T.history tree.old) in
+        let v = on_tree (Some change.now) old in
+        IfErr result (λ status. ByCause status
         (T.history tree.new ≡ T.history tree.old)
-        (λ first. FaultLeaves first (current_tree (T.history tree.old)) (edited (on_tree (Some change.now) (current_tree (T.history tree.old))) (current_tree (T.history tree.old))) (T.before_failed tree.new) (current_tree (T.history tree.new)))
+        (λ first. FaultLeaves first old (edited v old) (T.before_failed tree.new) (current_tree (T.history tree.new)))
         (λ _. ⊥)
-        ((on_tree (Some change.now) (current_tree (T.history tree.old)) ≡ Refuses status) × (T.history tree.new ≡ T.history tree.old))) }
-    ensures any_moment { T.Tells → LeavesOnly (T.history tree.old) (T.history tree.new)
-        (IsOldOrEdited (current_tree (T.history tree.old)) (edited (on_tree (Some change.now) (current_tree (T.history tree.old))) (current_tree (T.history tree.old)))) }
-    ensures cause { MatchResult result (λ _. T.faults tree.new ≡ T.faults tree.old)
-        (λ status. ByCause status (T.faults tree.new ≡ T.faults tree.old) (λ first. T.faults tree.new ≡ with_fault first (T.faults tree.old)) (λ _. ⊥) (T.faults tree.new ≡ T.faults tree.old)) }
+        ((v ≡ Refuses status) × (T.history tree.new ≡ T.history tree.old))) }
+    ensures any_moment { T.Tells →
+        let old = current_tree (T.history tree.old) in
+        LeavesOnly (T.history tree.old) (T.history tree.new) (IsOldOrEdited old (edited (on_tree (Some change.now) old) old)) }
+    ensures cause { let same = T.faults tree.new ≡ T.faults tree.old in
+        MatchResult result (λ _. same) (λ status. ByCause status
+        same (λ first. T.faults tree.new ≡ with_fault first (T.faults tree.old)) (λ _. ⊥) same) }
     ensures end { IfErr result IsRefusal }
 {
     look(tree, change)?;
@@ -138,11 +161,16 @@ fn commit_change<T: Tree>(alloc: Global, tree: &mut T, change: &NameChange) -> R
 
 // Whether the change can be made: its line is as shown, and nothing stands at its new path.
 fn look<T: Tree>(tree: &mut T, change: &NameChange) -> Result<(), Status>
-    ensures ok { T.Tells → OnOk result (on_tree (Some change.now) (current_tree (T.history tree.old)) ≡ Renames change.now.source change.now.to) }
-    ensures refused { T.Tells → IfErr result (λ status. ByCause status ⊥ (λ first. T.before_failed tree.new ≡ current_tree (T.history tree.old)) (λ _. ⊥) (on_tree (Some change.now) (current_tree (T.history tree.old)) ≡ Refuses status)) }
+    ensures ok { T.Tells →
+        OnOk result (on_tree (Some change.now) (current_tree (T.history tree.old)) ≡ Renames change.now.source change.now.to) }
+    ensures refused { T.Tells →
+        let old = current_tree (T.history tree.old) in
+        IfErr result (λ status. ByCause status
+        ⊥ (λ first. T.before_failed tree.new ≡ old) (λ _. ⊥) (on_tree (Some change.now) old ≡ Refuses status)) }
     ensures history { T.Tells → T.history tree.new ≡ T.history tree.old }
-    ensures cause { MatchResult result (λ _. T.faults tree.new ≡ T.faults tree.old)
-        (λ status. ByCause status ⊥ (λ first. IsLook first × (T.faults tree.new ≡ with_fault first (T.faults tree.old))) (λ _. ⊥) (T.faults tree.new ≡ T.faults tree.old)) }
+    ensures cause { let same = T.faults tree.new ≡ T.faults tree.old in
+        MatchResult result (λ _. same) (λ status. ByCause status
+        ⊥ (λ first. IsLook first × (T.faults tree.new ≡ with_fault first (T.faults tree.old))) (λ _. ⊥) same) }
     ensures end { IfErr result IsRefusal }
 {
     match is_as_shown(tree, &change.source, change.mode) {
@@ -172,7 +200,9 @@ fn is_as_shown<T: Tree>(tree: &mut T, path: &Path, mode: u16) -> Result<bool, Ca
     ensures history { T.Tells → T.history tree.new ≡ T.history tree.old }
     ensures found { T.Tells → OnErr result (T.before_failed tree.new ≡ current_tree (T.history tree.old)) }
     ensures look { IfErr result IsLook }
-    ensures cause { MatchResult result (λ _. T.faults tree.new ≡ T.faults tree.old) (λ first. T.faults tree.new ≡ with_fault first (T.faults tree.old)) }
+    ensures cause { MatchResult result
+        (λ _. T.faults tree.new ≡ T.faults tree.old)
+        (λ first. T.faults tree.new ≡ with_fault first (T.faults tree.old)) }
 {
     match tree.kind(path) {
         Err(Failed) => Err(CallName::Kind),
@@ -190,7 +220,9 @@ fn stands<T: Tree>(tree: &mut T, path: &Path) -> Result<bool, CallName>
     ensures history { T.Tells → T.history tree.new ≡ T.history tree.old }
     ensures found { T.Tells → OnErr result (T.before_failed tree.new ≡ current_tree (T.history tree.old)) }
     ensures look { IfErr result IsLook }
-    ensures cause { MatchResult result (λ _. T.faults tree.new ≡ T.faults tree.old) (λ first. T.faults tree.new ≡ with_fault first (T.faults tree.old)) }
+    ensures cause { MatchResult result
+        (λ _. T.faults tree.new ≡ T.faults tree.old)
+        (λ first. T.faults tree.new ≡ with_fault first (T.faults tree.old)) }
 {
     match tree.kind(path) {
         Err(Failed) => Err(CallName::Kind),

@@ -17,11 +17,14 @@ pub const MAX_BUFFER_BYTES: u64 = 33_554_432;
 /// `Missing`, `TooLarge`, `ReadFault`, or want of memory.
 pub fn read_input<H: Shelf>(alloc: Global, shelf: &mut H, name: &str) -> Result<Bytes, Status>
     ensures limit { IfOk result (λ bytes. length bytes ≤ max_buffer_bytes) }
-    ensures read { H.Tells → MatchResult result (λ bytes. input_of (H.files shelf.old) name.now ≡ Ok bytes)
-        (λ status. ByCause status (Unit {0}) (λ _. ⊥) (λ failed. H.last_failed shelf.new ≡ Some failed) (input_of (H.files shelf.old) name.now ≡ Err status)) }
+    ensures read { H.Tells →
+        let input = input_of (H.files shelf.old) name.now in
+        MatchResult result (λ bytes. input ≡ Ok bytes) (λ status. ByCause status
+        (Unit {0}) (λ _. ⊥) (λ failed. H.last_failed shelf.new ≡ Some failed) (input ≡ Err status)) }
     ensures files { H.Tells → H.files shelf.new ≡ H.files shelf.old }
-    ensures count { MatchResult result (λ _. H.faults shelf.new ≡ H.faults shelf.old)
-        (λ status. ByCause status (H.faults shelf.new ≡ H.faults shelf.old) (λ _. ⊥) (λ failed. H.faults shelf.new ≡ raised (H.faults shelf.old)) (H.faults shelf.new ≡ H.faults shelf.old)) }
+    ensures count { let same = H.faults shelf.new ≡ H.faults shelf.old in
+        MatchResult result (λ _. same) (λ status. ByCause status
+        same (λ _. ⊥) (λ failed. H.faults shelf.new ≡ raised (H.faults shelf.old)) same) }
     ensures end { IfErr result IsRefusal }
 {
     // The name is copied first, so that a failed read is never told as want of memory.

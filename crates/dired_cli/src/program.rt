@@ -10,7 +10,7 @@ ghost use Rattle.tree_core.specs.declared.node.CallName.{CallName as Call};
 ghost use Rattle.dired_cli.specs.declared.status.Status.TheVariants.{Done, Memory, TreeFault, ReadFault, WriteFault};
 ghost use Rattle.dired_cli.specs.Reports.{Said};
 ghost use Rattle.dired_cli.specs.WellFormed.{IsWellFormed};
-ghost use Rattle.dired_cli.specs.Runs.{verdict, Decides, line_of, may_follow_fault};
+ghost use Rattle.dired_cli.specs.Runs.{verdict, Outside, Decides, line_of, may_follow_fault};
 
 use crate::Status;
 use crate::commit::carry_out;
@@ -36,29 +36,50 @@ pub fn run<T: Tree, H: Shelf, W: Sink>(
     requires durable { T.Tells → IsDurable (T.history tree.old) }
 
     // The status is decided by the verdict, by the first failed call or by want of memory, and then its line is written.
-    ensures outcome { T.Tells → H.Tells → (decided : Status) ×
-        (Decides (verdict (map string_bytes words.now) (H.files shelf.old) (current_tree (T.history tree.old)))
-        (record { history = T.history tree.old; tree_faults = T.faults tree.old; found = T.before_failed tree.old; read_faults = H.faults shelf.old; last_read = H.last_failed shelf.old })
-        (record { history = T.history tree.new; tree_faults = T.faults tree.new; found = T.before_failed tree.new; read_faults = H.faults shelf.new; last_read = H.last_failed shelf.new })
-        decided
-        × Said W.Tells decided (line_of (verdict (map string_bytes words.now) (H.files shelf.old) (current_tree (T.history tree.old))) decided)
+    ensures outcome { T.Tells → H.Tells →
+        let v = verdict (map string_bytes words.now) (H.files shelf.old) (current_tree (T.history tree.old)) in
+        let before : Outside = record {
+          history = T.history tree.old;
+          tree_faults = T.faults tree.old;
+          found = T.before_failed tree.old;
+          read_faults = H.faults shelf.old;
+          last_read = H.last_failed shelf.old;
+        } in
+        let now : Outside = record {
+          history = T.history tree.new;
+          tree_faults = T.faults tree.new;
+          found = T.before_failed tree.new;
+          read_faults = H.faults shelf.new;
+          last_read = H.last_failed shelf.new;
+        } in
+        (decided : Status) × (Decides v before now decided
+        × Said W.Tells decided (line_of v decided)
         (W.taken sink.old) (W.taken sink.new) (W.faults sink.old) (W.faults sink.new) result) }
 
     // Stopped at any moment, whatever failed, the tree is the old one or the edited one.
-    ensures any_moment { T.Tells → H.Tells → LeavesOnly (T.history tree.old) (T.history tree.new)
-        (IsOldOrEdited (current_tree (T.history tree.old)) (edited (verdict (map string_bytes words.now) (H.files shelf.old) (current_tree (T.history tree.old))) (current_tree (T.history tree.old)))) }
+    ensures any_moment { T.Tells → H.Tells →
+        let old = current_tree (T.history tree.old) in
+        let new = edited (verdict (map string_bytes words.now) (H.files shelf.old) old) old in
+        LeavesOnly (T.history tree.old) (T.history tree.new) (IsOldOrEdited old new) }
 
     // What is well formed is done, where no call failed and memory was there.
-    ensures complete { T.Tells → H.Tells → IsWellFormed (map string_bytes words.now) (H.files shelf.old) (current_tree (T.history tree.old))
-        → TreeHeld (T.faults tree.old) (T.faults tree.new) → Stayed (H.faults shelf.old) (H.faults shelf.new) → Stayed (W.faults sink.old) (W.faults sink.new)
-        → (result ≡ Done) ⊎ (result ≡ Memory) }
+    ensures complete { T.Tells → H.Tells →
+        IsWellFormed (map string_bytes words.now) (H.files shelf.old) (current_tree (T.history tree.old)) →
+        TreeHeld (T.faults tree.old) (T.faults tree.new) →
+        Stayed (H.faults shelf.old) (H.faults shelf.new) →
+        Stayed (W.faults sink.old) (W.faults sink.new) →
+        (result ≡ Done) ⊎ (result ≡ Memory) }
 
     // A fault comes only where a call of that object failed in this run, and is named. Every other status comes only where
     // no call failed.
     ensures tree_fault { (first : Call) → result ≡ TreeFault first → T.faults tree.new ≡ with_fault first (T.faults tree.old) }
-    ensures read_fault { (failed : List ℕ) → result ≡ ReadFault failed → (H.faults shelf.new ≡ raised (H.faults shelf.old)) × (H.Tells → H.last_failed shelf.new ≡ Some failed) }
+    ensures read_fault { (failed : List ℕ) → result ≡ ReadFault failed →
+        (H.faults shelf.new ≡ raised (H.faults shelf.old)) × (H.Tells → H.last_failed shelf.new ≡ Some failed) }
     ensures write_fault { (held : ℕ) → result ≡ WriteFault held → W.faults sink.new ≡ raised (W.faults sink.old) }
-    ensures no_fault { may_follow_fault result ≡ false → (T.faults tree.new ≡ T.faults tree.old) × (H.faults shelf.new ≡ H.faults shelf.old) × (W.faults sink.new ≡ W.faults sink.old) }
+    ensures no_fault { may_follow_fault result ≡ false →
+        (T.faults tree.new ≡ T.faults tree.old)
+        × (H.faults shelf.new ≡ H.faults shelf.old)
+        × (W.faults sink.new ≡ W.faults sink.old) }
 {
     let ended = decide(alloc, words, tree, shelf);
     report(alloc, ended, sink)
@@ -73,19 +94,30 @@ fn decide<T: Tree, H: Shelf>(
 ) -> Result<Text, Status>
     requires durable { T.Tells → IsDurable (T.history tree.old) }
 
-    ensures done { T.Tells → H.Tells → IfOk result (λ text. IsDone (verdict (map string_bytes words.now) (H.files shelf.old) (current_tree (T.history tree.old))) (current_tree (T.history tree.old)) (T.history tree.new) text) }
-    ensures refused { T.Tells → H.Tells → IfErr result (λ status. ByCause status
+    ensures done { T.Tells → H.Tells →
+        let old = current_tree (T.history tree.old) in
+        let v = verdict (map string_bytes words.now) (H.files shelf.old) old in
+        IfOk result (λ text. IsDone v old (T.history tree.new) text) }
+    ensures refused { T.Tells → H.Tells →
+        let old = current_tree (T.history tree.old) in
+        let v = verdict (map string_bytes words.now) (H.files shelf.old) old in
+        IfErr result (λ status. ByCause status
         (T.history tree.new ≡ T.history tree.old)
-        (λ first. FaultLeaves first (current_tree (T.history tree.old)) (edited (verdict (map string_bytes words.now) (H.files shelf.old) (current_tree (T.history tree.old))) (current_tree (T.history tree.old))) (T.before_failed tree.new) (current_tree (T.history tree.new)))
+        (λ first. FaultLeaves first old (edited v old) (T.before_failed tree.new) (current_tree (T.history tree.new)))
         (λ failed. (T.history tree.new ≡ T.history tree.old) × (H.last_failed shelf.new ≡ Some failed))
-        ((verdict (map string_bytes words.now) (H.files shelf.old) (current_tree (T.history tree.old)) ≡ Refuses status) × (T.history tree.new ≡ T.history tree.old))) }
-    ensures any_moment { T.Tells → H.Tells → LeavesOnly (T.history tree.old) (T.history tree.new)
-        (IsOldOrEdited (current_tree (T.history tree.old)) (edited (verdict (map string_bytes words.now) (H.files shelf.old) (current_tree (T.history tree.old))) (current_tree (T.history tree.old)))) }
-    ensures tree_count { MatchResult result (λ _. T.faults tree.new ≡ T.faults tree.old)
-        (λ status. ByCause status (T.faults tree.new ≡ T.faults tree.old) (λ first. T.faults tree.new ≡ with_fault first (T.faults tree.old)) (λ _. T.faults tree.new ≡ T.faults tree.old) (T.faults tree.new ≡ T.faults tree.old)) }
-    ensures shelf_count { MatchResult result (λ _. H.faults shelf.new ≡ H.faults shelf.old)
-        (λ status. ByCause status (H.faults shelf.new ≡ H.faults shelf.old) (λ _. H.faults shelf.new ≡ H.faults shelf.old) (λ failed. H.faults shelf.new ≡ raised (H.faults shelf.old)) (H.faults shelf.new ≡ H.faults shelf.old)) }
-    ensures last_read { H.Tells → IfErr result (λ status. ByCause status (Unit {0}) (λ _. Unit {0}) (λ failed. H.last_failed shelf.new ≡ Some failed) (Unit {0})) }
+        ((v ≡ Refuses status) × (T.history tree.new ≡ T.history tree.old))) }
+    ensures any_moment { T.Tells → H.Tells →
+        let old = current_tree (T.history tree.old) in
+        let new = edited (verdict (map string_bytes words.now) (H.files shelf.old) old) old in
+        LeavesOnly (T.history tree.old) (T.history tree.new) (IsOldOrEdited old new) }
+    ensures tree_count { let same = T.faults tree.new ≡ T.faults tree.old in
+        MatchResult result (λ _. same) (λ status. ByCause status
+        same (λ first. T.faults tree.new ≡ with_fault first (T.faults tree.old)) (λ _. same) same) }
+    ensures shelf_count { let same = H.faults shelf.new ≡ H.faults shelf.old in
+        MatchResult result (λ _. same) (λ status. ByCause status
+        same (λ _. same) (λ failed. H.faults shelf.new ≡ raised (H.faults shelf.old)) same) }
+    ensures last_read { H.Tells → IfErr result (λ status. ByCause status
+        (Unit {0}) (λ _. Unit {0}) (λ failed. H.last_failed shelf.new ≡ Some failed) (Unit {0})) }
     ensures end { IfErr result IsRefusal }
 {
     let Some((before, after)) = commit_words(words) else {

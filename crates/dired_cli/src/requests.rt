@@ -30,11 +30,14 @@ pub fn asked_for<H: Shelf>(
     after: &str,
     shelf: &mut H,
 ) -> Result<Option<NameChange>, Status>
-    ensures asked { H.Tells → MatchResult result (λ asked. request_of (H.files shelf.old) before.now after.now ≡ Ok asked)
-        (λ status. ByCause status (Unit {0}) (λ _. ⊥) (λ failed. H.last_failed shelf.new ≡ Some failed) (request_of (H.files shelf.old) before.now after.now ≡ Err status)) }
+    ensures asked { H.Tells →
+        let request = request_of (H.files shelf.old) before.now after.now in
+        MatchResult result (λ asked. request ≡ Ok asked) (λ status. ByCause status
+        (Unit {0}) (λ _. ⊥) (λ failed. H.last_failed shelf.new ≡ Some failed) (request ≡ Err status)) }
     ensures can { IfOk result CanBeAsked }
-    ensures count { MatchResult result (λ _. H.faults shelf.new ≡ H.faults shelf.old)
-        (λ status. ByCause status (H.faults shelf.new ≡ H.faults shelf.old) (λ _. ⊥) (λ failed. H.faults shelf.new ≡ raised (H.faults shelf.old)) (H.faults shelf.new ≡ H.faults shelf.old)) }
+    ensures count { let same = H.faults shelf.new ≡ H.faults shelf.old in
+        MatchResult result (λ _. same) (λ status. ByCause status
+        same (λ _. ⊥) (λ failed. H.faults shelf.new ≡ raised (H.faults shelf.old)) same) }
     ensures end { IfErr result IsRefusal }
 {
     let before = match read_input(alloc, shelf, before) {

@@ -1,4 +1,4 @@
-use Rattle.std.proofs.Common.{◌≡◌, sym, ◌∙◌, ap}
+use Rattle.std.proofs.Common.{sym, ◌∙◌, ap}
 use Rattle.tree_core.specs.declared.node.Change.TheVariants.{Rename, Sync}
 use Rattle.tree_core.specs.History.{History, Then}
 use Rattle.tree_core.proofs.Moments.{after_ok}
