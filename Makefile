@@ -18,7 +18,9 @@ install: $(PROGRAM)
 bench: $(PROGRAM)
 	bash bench/one-name.sh $(PROGRAM)
 
-# `rt run` proves, builds and runs; without words the program ends with status 1.
+# `rt run` proves, builds and runs; without words the program ends with status 1, so what counts is that it was built.
 $(PROGRAM): crates.txt $(wildcard crates/*/src/*.rt crates/*/specs/*.antt crates/*/proofs/*.antt)
-	cd crates/dired_cli && { rt run > /dev/null || true; }
-	touch $@
+	rm -f $@
+	cd crates/dired_cli && { rt run > out.log 2>&1 || true; }
+	test -x $@ || { tail -20 crates/dired_cli/out.log; exit 1; }
+	rm -f crates/dired_cli/out.log
