@@ -1,0 +1,118 @@
+-- The commands, each as one simple command of `clap`, and what words ask for.
+use Rattle.std.specs.Prelude.{ℕ, Bool, true, false, ◌||◌, not, List, [], ◌∷◌, Option, Some, None, Result, Ok, Err, codes, if◌then◌else◌}
+use Rattle.std.specs.Str.{bytes_eq}
+use Rattle.dired_text.specs.Paths.{Names}
+use Rattle.dired_text.specs.Resolve.{resolved}
+use Rattle.dired_text.specs.declared.resolving.NameError.{NameError}
+use Rattle.dired_text.specs.declared.resolving.NameError.TheVariants as name_error
+use Rattle.listing_text.specs.declared.switches.Switches.{Switches}
+use Rattle.clap.specs.Words.{App, Rule, Row, new_app, new_rule, with_rule, fault_of, matches_of, first_of, all_of}
+use Rattle.clap.specs.Simple.{on_top}
+use Rattle.clap.specs.declared.builder.action.ArgAction.TheVariants.{Set, Append, SetTrue}
+use Rattle.command_words.specs.declared.command.Command.{Command}
+use Rattle.command_words.specs.declared.command.Command.TheVariants.{Commit, List as Lists}
+use Rattle.command_words.specs.declared.command.Dir.{Dir}
+use Rattle.command_words.specs.declared.command.WordsFault.{WordsFault}
+use Rattle.command_words.specs.declared.command.WordsFault.TheVariants.{Usage, Memory}
+
+-- a command of this name without flags for help and version, whose words stand alone
+abbrev pub plain_app : List ℕ → App
+plain_app name = on_top (λ s. record s { no_binary_name = true; disable_help_flag = true; disable_version_flag = true }) (new_app name)
+
+-- one word that has to be there
+abbrev pub one_word : List ℕ → Rule
+one_word id = record (new_rule id) { required = true; action = Some Set }
+
+-- any number of words
+abbrev pub more_words : List ℕ → Rule
+more_words id = record (new_rule id) { action = Some Append }
+
+-- a flag of one letter
+abbrev pub flag_rule : List ℕ → ℕ → Rule
+flag_rule id letter = record (new_rule id) { short = Some letter; action = Some SetTrue }
+
+abbrev pub is_empty : {X : Type 0} → List X → Bool
+is_empty [] = true
+is_empty (x ∷ xs) = false
+
+-- what the words of a command ask for, where its definition refuses none of them
+unfoldable pub asked_by : App → (List Row → Result Command WordsFault) → List (List ℕ) → Result Command WordsFault
+asked_by app read words = if is_empty (fault_of app words) then read (matches_of app words) else Err Usage
+
+-- ---- `commit BEFORE AFTER`
+
+abbrev pub commit_app : App
+commit_app = with_rule (with_rule (plain_app (codes "commit")) (one_word (codes "BEFORE"))) (one_word (codes "AFTER"))
+
+abbrev pub named_buffers : Option (List ℕ) → Option (List ℕ) → Result Command WordsFault
+named_buffers (Some before) (Some after) = Ok (Commit before after)
+named_buffers (Some before) None = Err Usage
+named_buffers None after = Err Usage
+
+abbrev pub commit_by : List Row → Result Command WordsFault
+commit_by rows = named_buffers (first_of (codes "BEFORE") rows) (first_of (codes "AFTER") rows)
+
+-- ---- `list [-A] [-l] [-t] [-S] [-r] [DIR]...`
+
+abbrev pub list_app : App
+list_app =
+    with_rule (with_rule (with_rule (with_rule (with_rule (with_rule (plain_app (codes "list"))
+    (flag_rule (codes "all") 65)) (flag_rule (codes "long") 108)) (flag_rule (codes "time") 116)) (flag_rule (codes "size") 83)) (flag_rule (codes "reverse") 114))
+    (more_words (codes "DIR"))
+
+abbrev pub is_true : Option (List ℕ) → Bool
+is_true None = false
+is_true (Some value) = bytes_eq value (codes "true")
+
+-- whether a flag was given
+abbrev pub is_set : List ℕ → List Row → Bool
+is_set id rows = is_true (first_of id rows)
+
+-- without a flag the listing is made as with `-A` and `-l`
+abbrev pub switches_by : List Row → Switches
+switches_by rows = record {
+  all = is_set (codes "all") rows || not (is_set (codes "long") rows || is_set (codes "time") rows || is_set (codes "size") rows || is_set (codes "reverse") rows);
+  by_time = is_set (codes "time") rows;
+  by_size = is_set (codes "size") rows;
+  reverse = is_set (codes "reverse") rows;
+}
+
+-- a path that was found, or a refusal of the words. Want of memory stays what it is
+abbrev pub by_name : Result Names NameError → Result Names WordsFault
+by_name (Ok path) = Ok path
+by_name (Err name_error.Memory) = Err Memory
+by_name (Err e) = Err Usage
+
+-- the directory that a word names from the root, which is `.`
+abbrev pub path_of : List ℕ → Result Names WordsFault
+path_of word = if bytes_eq word (codes ".") then Ok [] else by_name (resolved [] word)
+
+abbrev pub with_dir : List ℕ → Result Names WordsFault → Result (List Dir) WordsFault → Result (List Dir) WordsFault
+with_dir word (Ok path) (Ok dirs) = Ok (record { word = word; path = path } ∷ dirs)
+with_dir word (Ok path) (Err e) = Err e
+with_dir word (Err e) dirs = Err e
+
+abbrev pub dirs_of : List (List ℕ) → Result (List Dir) WordsFault
+dirs_of [] = Ok []
+dirs_of (word ∷ words) = with_dir word (path_of word) (dirs_of words)
+
+abbrev pub words_or_none : Option (List (List ℕ)) → List (List ℕ)
+words_or_none None = []
+words_or_none (Some words) = words
+
+abbrev pub listing_asked : Switches → Result (List Dir) WordsFault → Result Command WordsFault
+listing_asked switches (Ok dirs) = Ok (Lists switches dirs)
+listing_asked switches (Err e) = Err e
+
+abbrev pub list_by : List Row → Result Command WordsFault
+list_by rows = listing_asked (switches_by rows) (dirs_of (words_or_none (all_of (codes "DIR") rows)))
+
+-- ---- the commands
+
+-- what words ask for: the first is compared, and the rest are the words of that command
+abbrev pub command_of : List (List ℕ) → Result Command WordsFault
+command_of [] = Err Usage
+command_of (command ∷ words) =
+    if bytes_eq command (codes "list") then asked_by list_app list_by words
+    else if bytes_eq command (codes "commit") then asked_by commit_app commit_by words
+    else Err Usage
