@@ -2,7 +2,5 @@
 #![tactic(auto)]
 
 mod plain;
-mod switches;
 
 pub use plain::{Plain, has_plain_bytes, read_plain};
-pub use switches::Switches;
