@@ -1,0 +1,21 @@
+//! Regular expressions in the syntax of Emacs (GNU Emacs Manual, "Syntax of Regular Expressions"), as the trees that they
+//! write and as patterns of `regex`.
+#![tactic(auto)]
+
+mod ast;
+mod fault;
+mod lexing;
+mod matching;
+mod places;
+mod reading;
+mod sets;
+mod spelling;
+#[cfg(test)]
+mod tests;
+mod token;
+
+pub use ast::{Ast, groups};
+pub use fault::RegexpFault;
+pub use matching::found;
+pub use reading::read;
+pub use spelling::spell;
