@@ -15,7 +15,7 @@ use Rattle.tree_core.specs.declared.node.CallName.{CallName}
 use Rattle.tree_core.specs.declared.faults.Faults.{Faults}
 use Rattle.tree_core.specs.Faults.{HasCause}
 use Rattle.tree_core.specs.FileTree.{FileTree, IsTree, with_nodes, done}
-use Rattle.tree_core.specs.History.{History, Began, Then, current_tree, next_number, clock, is_sync, is_write, written, with_bytes, IsTorn, IsCrashState, IsDurable, IsCrashStateSince, LeavesOnly, Changes, emptied}
+use Rattle.tree_core.specs.History.{History, Began, Then, current_tree, next_number, clock, is_sync, is_write, written, with_bytes, IsTorn, IsCrashState, IsDurable, IsCrashStateSince, LeavesOnly, Performs, emptied}
 use Rattle.tree_core.proofs.TreeLemmas.{Entries, tie, with_nodes-same, get-with_nodes, same_tree}
 
 -- ---- the crash model
@@ -146,13 +146,13 @@ goes_on old mid change P so_far here = record {
 }
 
 -- what a call makes of the history, whatever it answers
-pub after_call : {T : Type 0} (change : Change) (mid new : History) (result : Result T Failed) (Q : History → Type 0) → Changes change mid new result → Q mid → Q (Then mid change) → Q new
+pub after_call : {T : Type 0} (change : Change) (mid new : History) (result : Result T Failed) (Q : History → Type 0) → Performs change mid new result → Q mid → Q (Then mid change) → Q new
 after_call change mid new (Ok v) Q is not_done is_done = subst Q (sym is) is_done
 after_call change mid new (Err e) Q (inl same) not_done is_done = subst Q (sym same) not_done
 after_call change mid new (Err e) Q (inr is) not_done is_done = subst Q (sym is) is_done
 
 -- and where it answers Ok
-pub after_ok : {T : Type 0} (change : Change) (mid new : History) (result : Result T Failed) → is_err result ≡ false → Changes change mid new result → new ≡ Then mid change
+pub after_ok : {T : Type 0} (change : Change) (mid new : History) (result : Result T Failed) → is_err result ≡ false → Performs change mid new result → new ≡ Then mid change
 after_ok change mid new (Ok v) ok is = is
 after_ok change mid new (Err e) ok is = cc
 
@@ -182,7 +182,7 @@ pub started-durable : (s : History) (P : FileTree → Type 0) → IsDurable s �
 started-durable s P durable now = started s P (λ c left. subst P (sym (durable c left)) now)
 
 -- what a test with `is_err` tells
-pub went_on : {T : Type 0} (change : Change) (mid new : History) (result : Result T Failed) (b : Bool) → b ≡ is_err result → b ≡ false → Changes change mid new result → new ≡ Then mid change
+pub went_on : {T : Type 0} (change : Change) (mid new : History) (result : Result T Failed) (b : Bool) → b ≡ is_err result → b ≡ false → Performs change mid new result → new ≡ Then mid change
 went_on change mid new result b test ok is = after_ok change mid new result (sym test ∙ ok) is
 
 pub no_fault : {T : Type 0} (call : CallName) (old new : Faults) (result : Result T Failed) (b : Bool) → b ≡ is_err result → b ≡ false → HasCause call old new result → new ≡ old
@@ -194,6 +194,6 @@ pub unmoved : (old new : History) (P : FileTree → Type 0) → new ≡ old → 
 unmoved old new P same durable now = subst (λ n. LeavesOnly old n P) (sym same) (started-durable old P durable now)
 
 -- a sync that answers Ok settles
-pub durable_when : {T : Type 0} (old new : History) (result : Result T Failed) (b : Bool) → b ≡ is_ok result → b ≡ true → Changes Sync old new result → IsDurable new
+pub durable_when : {T : Type 0} (old new : History) (result : Result T Failed) (b : Bool) → b ≡ is_ok result → b ≡ true → Performs Sync old new result → IsDurable new
 durable_when old new (Ok v) b test ok is = subst IsDurable (sym is) (durable-sync old)
 durable_when old new (Err e) b test ok is = cc

@@ -9,6 +9,8 @@ use Rattle.tree_core.specs.declared.node.Node.{Node}
 use Rattle.tree_core.specs.declared.node.Node.TheVariants.{Dir, Link, File}
 use Rattle.tree_core.specs.declared.node.Change.{Change}
 use Rattle.tree_core.specs.declared.node.Change.TheVariants.{MakeDir, MakeLink, MakeHard, WriteFile, Rename, SetMode, Remove, RemoveDir, Sync}
+use Rattle.tree_core.specs.declared.meta.LookEnd.{LookEnd}
+use Rattle.tree_core.specs.declared.meta.LookEnd.TheVariants as end
 use Rattle.tree_core.specs.FileTree.{FileTree, IsTree, done, next_after, with_nodes}
 
 pub data History : Type 0 where
@@ -112,9 +114,17 @@ pub record LeavesOnly (old new : History) (P : FileTree → Type 0) : Type 0 whe
   pub before : (m : ℕ) (c : FileTree) → m ≤ clock old → IsCrashStateSince m new c → IsCrashStateSince m old c ⊎ P c
 
 -- What a changing call does to the history: at Ok it was done; one that failed was done whole or not at all.
-abbrev pub Changes : {T : Type 0} → Change → History → History → Result T Failed → Type 0
-Changes change old new result = MatchResult result (λ _. new ≡ Then old change) (λ _. (new ≡ old) ⊎ (new ≡ Then old change))
+abbrev pub Performs : {T : Type 0} → Change → History → History → Result T Failed → Type 0
+Performs change old new result = MatchResult result (λ _. new ≡ Then old change) (λ _. (new ≡ old) ⊎ (new ≡ Then old change))
 
 -- A call that fails keeps the tree that read before it.
 abbrev pub FailedAt : {T : Type 0} → Result T Failed → History → FileTree → FileTree → Type 0
 FailedAt result history old new = MatchResult result (λ _. new ≡ old) (λ _. new ≡ current_tree history)
+
+-- The same of a look that takes memory: one that ends for want of memory is no failed call.
+abbrev pub EndFailedAt : History → FileTree → FileTree → LookEnd → Type 0
+EndFailedAt history old new end.Failed = new ≡ current_tree history
+EndFailedAt history old new end.Memory = new ≡ old
+
+abbrev pub LookFailedAt : {T : Type 0} → Result T LookEnd → History → FileTree → FileTree → Type 0
+LookFailedAt result history old new = MatchResult result (λ _. new ≡ old) (EndFailedAt history old new)

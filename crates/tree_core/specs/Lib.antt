@@ -5,3 +5,6 @@ pub mod Mem
 pub mod Allowed
 pub mod MemHistory
 pub mod Built
+pub mod Fields
+pub mod MemFields
+pub mod FieldLaws

@@ -5,7 +5,7 @@ ghost use Rattle.std.specs.FinMap.{get};
 ghost use Rattle.dired_text.specs.Paths.{Names};
 ghost use Rattle.dired_text.specs.Counts.{raised, Rose};
 ghost use Rattle.tree_core.specs.FileTree.{CanDo, next_after, root_tree};
-ghost use Rattle.tree_core.specs.History.{History, Began, Then, IsSound, Changes, FailedAt, current_tree, next_number as number_told, is_sync as is_sync_call, crash_images, IsCrashState};
+ghost use Rattle.tree_core.specs.History.{History, Began, Then, IsSound, Performs, FailedAt, current_tree, next_number as number_told, is_sync as is_sync_call, crash_images, IsCrashState};
 ghost use Rattle.tree_core.specs.Faults.{HasCause, with_fault};
 ghost use Rattle.tree_core.specs.Mem.{tree_of, history_of, CouldDo, scheduled, NeedsMore, images_at};
 ghost use Rattle.tree_core.specs.Built.{built, next_of, first_bad, Refuses};
@@ -13,10 +13,11 @@ ghost use Rattle.tree_core.specs.Allowed.{IsSound-prop, CouldDo-prop};
 
 use crate::apply::{Attempt, do_change};
 use crate::build::rows_of;
+use crate::fields::{is_childless, meta_at, names_in};
 use crate::replay::Replay;
 use crate::rows::{Row, copy_rows, emptied_rows, node_of};
-use crate::{BuildFault, CallName, Change, Entry, Faults, Kind, Tree};
-use dired_text::{Failed, Memory, Path};
+use crate::{BuildFault, CallName, Change, Entry, Faults, Kind, LookEnd, Meta, Tree};
+use dired_text::{Failed, Memory, Name, Path};
 use std::alloc::Global;
 
 /// A tree in memory. It keeps the tree that it began with and a record of the changing calls since, and its calls fail
@@ -103,7 +104,7 @@ fn is_sync(change: &Change) -> bool
 }
 
 impl MemTree {
-    ghost use Rattle.tree_core.specs.MemHistory.{history_told, before_failed_told, fate_told, look_fails_told, told, untouched, SameSchedule};
+    ghost use Rattle.tree_core.specs.MemHistory.{history_told, before_failed_told, fields_told, fate_told, look_fails_told, told, untouched, SameSchedule};
 
     /// The tree of the entries, whose root has the mode 0o755. Nothing is pending, and no call is to fail.
     ///
@@ -237,6 +238,7 @@ impl MemTree {
         ensures cause { self.new.faults ≡ with_fault call self.old.faults }
         ensures short { self.new.short ≡ self.old.short }
         ensures schedule { SameSchedule self.old self.new }
+        ensures fields { fields_told self.new ≡ fields_told self.old }
     {
         self.before_fault = self.attempts.len();
         self.faults.note(call);
@@ -250,6 +252,7 @@ impl MemTree {
         ensures cause { self.new.faults ≡ with_fault call self.old.faults }
         ensures short { self.new.short ≡ raised self.old.short }
         ensures schedule { SameSchedule self.old self.new }
+        ensures fields { fields_told self.new ≡ fields_told self.old }
     {
         self.short = self.short.saturating_add(1);
         self.give_up(call)
@@ -279,7 +282,7 @@ impl MemTree {
     // Does a changing call, or fails, as its fate says.
     fn change(&mut self, change: Change, call: CallName, fate: Fate) -> Result<(), Failed>
         requires { CanDo change (current_tree (history_told self.old)) }
-        ensures history { Changes change (history_told self.old) (history_told self.new) result }
+        ensures history { Performs change (history_told self.old) (history_told self.new) result }
         ensures before_failed { FailedAt result (history_told self.old) (before_failed_told self.old) (before_failed_told self.new) }
         ensures cause { HasCause call self.old.faults self.new.faults result }
         ensures scheduled { fate.is_ok ≡ false → IsTrue (is_err result) }
@@ -315,7 +318,8 @@ impl MemTree {
 }
 
 impl Tree for MemTree {
-    ghost use Rattle.tree_core.specs.MemHistory.{history_told, before_failed_told, MayFailAs};
+    ghost use Rattle.tree_core.specs.MemHistory.{history_told, before_failed_told, fields_told, MayFailAs};
+    ghost use Rattle.tree_core.specs.FieldLaws.{told_fields};
 
     ghost Tells = { Unit {0} };
 
@@ -323,11 +327,15 @@ impl Tree for MemTree {
 
     ghost before_failed = { before_failed_told };
 
+    ghost fields = { fields_told };
+
     ghost faults = { λ m. m.faults };
 
     ghost MayFail = { MayFailAs };
 
     ghost is_sound = { λ m tells. m.sound };
+
+    ghost fields_show = { λ m tells. told_fields m.rows.items _ m.reads m.sound };
 
     fn kind(&mut self, path: &Path) -> Result<Option<Kind>, Failed> {
         if self.look_fails() {
@@ -344,6 +352,27 @@ impl Tree for MemTree {
             Some(node) => Ok(node.mode()),
             None => Ok(0),
         }
+    }
+
+    fn is_empty(&mut self, path: &Path) -> Result<bool, Failed> {
+        if self.look_fails() {
+            return Err(self.give_up(CallName::IsEmpty));
+        }
+        Ok(is_childless(&self.rows, path))
+    }
+
+    fn meta(&mut self, alloc: Global, path: &Path) -> Result<Meta, LookEnd> {
+        if self.look_fails() {
+            return Err(self.give_up(CallName::Meta).into());
+        }
+        Ok(meta_at(alloc, &self.rows, path)?)
+    }
+
+    fn names(&mut self, alloc: Global, path: &Path) -> Result<Vec<Name>, LookEnd> {
+        if self.look_fails() {
+            return Err(self.give_up(CallName::Names).into());
+        }
+        Ok(names_in(alloc, &self.rows, path)?)
     }
 
     fn rename(&mut self, from: &Path, to: &Path) -> Result<(), Failed> {

@@ -1,12 +1,13 @@
 // The rows of a tree in memory, in any order.
 ghost use Rattle.std.specs.Prelude.{◌≡◌, ◌++◌, [], ◌∷◌, IfOk, OnOk, OnErr, filter, map, not, if◌then◌else◌, ◌==◌};
 ghost use Rattle.std.specs.Option.{option_map};
-ghost use Rattle.std.specs.FinMap.{get};
+ghost use Rattle.std.specs.FinMap.{get, find};
 ghost use Rattle.std.specs.List.{list_any};
-ghost use Rattle.dired_text.specs.Paths.{rest_below as rest_below_of};
+ghost use Rattle.dired_text.specs.Paths.{path_cmp};
 ghost use Rattle.tree_core.specs.FileTree.{moved, moved_entry, with_file_mode};
 ghost use Rattle.tree_core.specs.History.{with_bytes};
 ghost use Rattle.tree_core.specs.Mem.{pairs, tree_of, is_same_path};
+ghost use Rattle.tree_core.specs.MemFields.{listed_rows, moved_listed};
 
 use crate::Node;
 use dired_text::{Bytes, Memory, Name, Path, rest_below};
@@ -58,6 +59,18 @@ fn is_at(row: &Row, names: &[Name]) -> bool
     ensures { result ≡ is_same_path names.now row.now.names.items }
 {
     names == row.names.as_slice()
+}
+
+/// The row that stands there.
+pub fn row_at<'a>(rows: &'a [Row], names: &[Name]) -> Option<&'a Row>
+    ensures { option_map (λ r. (r.now.node, r.now.mtime)) result ≡ find path_cmp names.now (listed_rows rows.now) }
+{
+    for row in rows {
+        if is_at(row, names) {
+            return Some(row);
+        }
+    }
+    None
 }
 
 /// What stands there.
