@@ -1,6 +1,23 @@
-//! The lines of a listing.
+//! The lines and sections of a listing.
 #![tactic(auto)]
 
+mod columns;
+mod dates;
+mod faults;
+mod fields;
+mod line;
+mod numbers;
+mod ordering;
 mod plain;
+mod reading;
+mod switches;
+mod writing;
 
+pub use dates::minute_of;
+pub use faults::{Field, LineFault};
+pub use line::{Line, Widths};
+pub use ordering::order;
 pub use plain::{Plain, has_plain_bytes, read_plain};
+pub use reading::read_line;
+pub use switches::{Switches, read_switches};
+pub use writing::{header_text, line_text, section_text};
