@@ -18,6 +18,7 @@ pub use faults::{Field, LineFault};
 pub use line::{Line, Widths};
 pub use ordering::order;
 pub use plain::{Plain, has_plain_bytes, read_plain};
-pub use reading::read_line;
+pub use fields::{arrow_place, behind_space};
+pub use reading::{Head, read_head, read_line, read_name, read_target};
 pub use switches::{Switches, read_switches};
 pub use writing::{header_text, line_text, section_text};
