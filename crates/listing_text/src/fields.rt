@@ -113,7 +113,7 @@ fn word_len(text: &[u8]) -> usize
 
 // How many bytes stand before the first ` -> `.
 #[tactic(auto, unfolding(crate::specs::Fields::arrow_place))]
-pub(crate) fn arrow_place(text: &[u8]) -> Option<usize>
+pub fn arrow_place(text: &[u8]) -> Option<usize>
     ensures place { result ≡ arrow_place_in text.now }
     ensures within { IfSome result (λ place. place + 4 ≤ length text.now) }
 {
@@ -126,7 +126,7 @@ pub(crate) fn arrow_place(text: &[u8]) -> Option<usize>
 }
 
 // What stands behind one space.
-pub(crate) fn behind_space(text: &[u8]) -> Option<&[u8]>
+pub fn behind_space(text: &[u8]) -> Option<&[u8]>
     ensures { option_map (λ r. r.now) result ≡ behind_space_of text.now }
 {
     match text {

@@ -14,18 +14,23 @@ use std::alloc::Global;
 use std::str;
 use tree_core::Kind;
 
-// The fields before the name, and the rest of the line.
+/// The fields of a file's line before the name.
 #[derive(Clone, Copy, Debug)]
-struct Head<'a> {
-    mark: u8,
-    kind: Kind,
-    mode: u16,
-    links: u32,
-    owner: &'a str,
-    group: &'a str,
-    size: u64,
-    minute: i64,
-    rest: &'a [u8],
+pub struct Head<'a> {
+    pub mark: u8,
+    pub kind: Kind,
+    /// At most 0o7777; 0o777 for a link.
+    pub mode: u16,
+    /// The count of hard links.
+    pub links: u32,
+    pub owner: &'a str,
+    pub group: &'a str,
+    /// In bytes.
+    pub size: u64,
+    /// Minutes from 1970-01-01 00:00 UTC.
+    pub minute: i64,
+    /// What stands behind the date.
+    pub rest: &'a [u8],
 }
 
 /// The mark and the line that a file's line shows. The text is given without its newline.
@@ -70,9 +75,9 @@ fn bad(field: Field, bytes: usize, rest: &[u8]) -> LineFault
     }
 }
 
-// The fields before the name.
+/// The fields of a file's line before the name.
 #[tactic(auto, unfolding(crate::specs::Reading::front_of))]
-fn read_head(text: &[u8]) -> Result<Head<'_>, LineFault>
+pub fn read_head(text: &[u8]) -> Result<Head<'_>, LineFault>
     ensures { result_map_both seen (λ e. e) result ≡ front_of text.now }
 {
     let bytes = text.len();
@@ -203,7 +208,7 @@ fn read_link_names(alloc: Global, bytes: usize, rest: &[u8], place: Option<usize
 }
 
 // The name that begins where the rest of a text begins.
-fn read_name(alloc: Global, bytes: usize, rest: &[u8], shown: &[u8]) -> Result<Text, LineFault>
+pub fn read_name(alloc: Global, bytes: usize, rest: &[u8], shown: &[u8]) -> Result<Text, LineFault>
     ensures { IsOrMemory memory (name_at bytes rest.now shown.now) result }
 {
     match read_plain_text(alloc, shown)? {
@@ -214,7 +219,7 @@ fn read_name(alloc: Global, bytes: usize, rest: &[u8], shown: &[u8]) -> Result<T
 
 // The target of a link: 1 to 4,095 bytes.
 #[tactic(auto, unfolding(crate::specs::Fields::target_of))]
-fn read_target(alloc: Global, shown: &[u8]) -> Result<Option<Text>, LineFault>
+pub fn read_target(alloc: Global, shown: &[u8]) -> Result<Option<Text>, LineFault>
     ensures { IsOrMemory memory (Ok (target_of shown.now)) result }
 {
     match read_plain_text(alloc, shown)? {
