@@ -46,16 +46,17 @@ shows_at : (listed : Listed) (o : Option (Node × ℤ)) (node : Node) → option
 shows_at listed None node is = cc
 shows_at listed (Some e) node is = subst (λ n. Shows n (meta_of listed e)) (same_Some e.0 node is) (shows_meta listed e.0 e.1)
 
-lawful_at : (listed : Listed) (o : Option (Node × ℤ)) → ((node : Node) → option_map (λ e. e.0) o ≡ Some node → IsLawful node) → IsTrue (is_some (option_map (λ e. e.0) o)) → IsMeta (meta_at listed o)
-lawful_at listed None lawful stands = cc
-lawful_at listed (Some e) lawful stands = lawful_meta listed e.0 e.1 (lawful e.0 refl)
+lawful_at : (listed : Listed) (o : Option (Node × ℤ)) → ((node : Node) → option_map (λ e. e.0) o ≡ Some node → IsLawful node) → IsMeta (meta_at listed o)
+lawful_at listed None lawful = lawful_meta listed (Dir 0) _ (omega arith)
+lawful_at listed (Some e) lawful = lawful_meta listed e.0 e.1 (lawful e.0 refl)
 
--- the fields that rows tell are those of the tree that the rows show
-pub told_fields : (rows : List Row) (h : History) → ((q : Names) → get (tree_of rows) q ≡ get (current_tree h) q) → IsSound h → AreFields (current_tree h) (fields_in (listed_rows rows))
-told_fields rows h reads sound = record {
-  shows = λ p node is. shows_at (listed_rows rows) _ node (sym (same p) ∙ is);
-  lawful = λ p stands. lawful_at (listed_rows rows) _ (λ node is. sound.tree.lawful p node (same p ∙ is)) (subst (λ o. IsTrue (is_some o)) (same p) stands);
-}
-  where
-    same : (q : Names) → get (current_tree h) q ≡ option_map (λ e. e.0) (find path_cmp q (listed_rows rows))
-    same q = sym (reads q) ∙ get-from_entries path_cmp-total (pairs rows) q ∙ find_listed rows q
+module _ (rows : List Row) (h : History) (reads : (q : Names) → get (tree_of rows) q ≡ get (current_tree h) q) (sound : IsSound h) where
+  same : (q : Names) → get (current_tree h) q ≡ option_map (λ e. e.0) (find path_cmp q (listed_rows rows))
+  same q = sym (reads q) ∙ get-from_entries path_cmp-total (pairs rows) q ∙ find_listed rows q
+
+  pub told_lawful : (p : Names) → IsMeta (fields_in (listed_rows rows) p)
+  told_lawful p = lawful_at (listed_rows rows) _ (λ node is. sound.tree.lawful p node (same p ∙ is))
+
+  -- the fields that rows tell are those of the tree that the rows show
+  pub told_fields : AreFields (current_tree h) (fields_in (listed_rows rows))
+  told_fields = record { shows = λ p node is. shows_at (listed_rows rows) _ node (sym (same p) ∙ is); lawful = λ p stands. told_lawful p }
