@@ -81,10 +81,7 @@ impl Path {
     pub fn child(&self, name: &Name) -> Result<Option<Self>, Memory>
         ensures { IfOk result (λ found. found ≡ (if nat_le (path_bytes (self.now ++ name.now ∷ [])) max_path_bytes then Some (self.now ++ name.now ∷ []) else None)) }
     {
-        let mut names = Vec::with_capacity(*self.names.allocator(), self.names.len() + 1)?;
-        for above in &self.names {
-            names.push(above.copy()?)?;
-        }
+        let mut names = copy_names(*self.names.allocator(), &self.names)?;
         names.push(name.copy()?)?;
         Ok(Self::from_names(names))
     }

@@ -1,9 +1,8 @@
 -- The lines and sections of a listing, by what a tree tells.
-use Rattle.std.specs.Prelude.{◌≡◌, ◌↔◌, ℕ, ◌+◌, ◌==◌, Bool, true, false, not, ◌&&◌, ◌||◌, nat_le, List, [], ◌∷◌, ◌++◌, map, Option, Some, None, Result, Ok, Err, if◌then◌else◌, is_some, IsTrue, codes, IsPermutation, IsSorted, MatchResult, position}
-use Rattle.std.specs.List.{filter_map, list_any}
-use Rattle.std.specs.FinMap.{FinMap, get, entries}
-use Rattle.std.specs.Cmp.Lexicographic.{pointwise}
-use Rattle.std.specs.Str.{bytes_eq}
+use Rattle.std.specs.Prelude.{◌≡◌, ℕ, ◌+◌, ◌==◌, Bool, false, not, ◌&&◌, ◌||◌, nat_le, List, [], ◌∷◌, ◌++◌, map, Option, Some, None, Result, if◌then◌else◌, codes, flat_map, IsPermutation, IsSorted, MatchResult}
+use Rattle.std.specs.List.{filter_map}
+use Rattle.std.specs.BTreeSet.{insert_key}
+use Rattle.std.specs.FinMap.{get}
 use Rattle.dired_text.specs.Paths.{Names, path_cmp, path_bytes, max_path_bytes}
 use Rattle.tree_core.specs.declared.faults.Faults.{Faults}
 use Rattle.tree_core.specs.declared.meta.Meta.{Meta}
@@ -62,34 +61,34 @@ unmarked lines = map (λ (line : Line). (32, line)) lines
 abbrev pub IsSection : Switches → FileTree → (Names → Meta) → Names → List ℕ → Type 0
 IsSection switches t fields dir text = (lines : List Line) × IsListed switches t fields dir lines × (text ≡ section_text_of dir (unmarked lines))
 
--- texts with an empty line between two
-abbrev pub apart : List (List ℕ) → List ℕ
-apart [] = []
-apart (text ∷ []) = text
-apart (text ∷ next ∷ later) = text ++ 10 ∷ apart (next ∷ later)
+-- the text of a listing with these sections, an empty line between two: each is a whole number of lines
+abbrev pub listing_of : List (List ℕ) → List ℕ
+listing_of sections = codes "dired 1" ++ flat_map (λ section. 10 ∷ section) sections
 
--- the text of a listing with these sections, in the order of their paths
-abbrev pub listing_of : FinMap path_cmp (List ℕ) → List ℕ
-listing_of sections = codes "dired 1\n" ++ apart (map (λ s. s.1) (entries sections))
+-- these paths and more, each once and in their order
+abbrev pub paths_with : List Names → List Names → List Names
+paths_with paths [] = paths
+paths_with paths (more ∷ later) = paths_with (insert_key path_cmp paths more) later
 
-abbrev pub is_same_path : Names → Names → Bool
-is_same_path p q = pointwise bytes_eq p q
+-- the root and these directories, each once, in the order of their paths
+abbrev pub listed_paths : List Names → List Names
+listed_paths dirs = paths_with ([] ∷ []) dirs
 
-abbrev pub is_among : Names → List Names → Bool
-is_among p paths = list_any (is_same_path p) paths
-
--- The sections are those of these directories, one for each and no others.
-pub record AreSections (switches : Switches) (t : FileTree) (fields : Names → Meta) (dirs : List Names) (sections : FinMap path_cmp (List ℕ)) : Type 0 where
-  pub dirs : (p : Names) → is_some (get sections p) ≡ is_among p dirs
-  pub each : (p : Names) (section : List ℕ) → get sections p ≡ Some section → IsSection switches t fields p section
+-- one section for each of these directories
+abbrev pub AreSections : Switches → FileTree → (Names → Meta) → List Names → List (List ℕ) → Type 0
+AreSections switches t fields [] [] = Unit {0}
+AreSections switches t fields (p ∷ paths) (section ∷ sections) = IsSection switches t fields p section × AreSections switches t fields paths sections
+AreSections switches t fields [] (section ∷ sections) = ⊥
+AreSections switches t fields (p ∷ paths) [] = ⊥
 
 -- A listing: one section for the root and one for each of these directories, each once and no others.
 abbrev pub IsListing : Switches → FileTree → (Names → Meta) → List Names → List ℕ → Type 0
-IsListing switches t fields dirs text = (sections : FinMap path_cmp (List ℕ)) × AreSections switches t fields ([] ∷ dirs) sections × (text ≡ listing_of sections)
+IsListing switches t fields dirs text = (sections : List (List ℕ)) × AreSections switches t fields (listed_paths dirs) sections × (text ≡ listing_of sections)
 
--- the index of the first of these at which no directory stands
-abbrev pub first_other : FileTree → List Names → Option ℕ
-first_other t dirs = position (λ dir. not (is_dir_node (get t dir))) dirs
+-- of directories that are numbered from here on, the first at which no directory stands
+abbrev pub first_other : FileTree → ℕ → List Names → Option ℕ
+first_other t index [] = None
+first_other t index (dir ∷ dirs) = if is_dir_node (get t dir) then first_other t (index + 1) dirs else Some index
 
 -- the end is the refusal of this directory
 abbrev pub Refuses : ListEnd → Option ℕ → Type 0

@@ -3,7 +3,7 @@ ghost use Rattle.std.specs.Prelude.{◌≡◌};
 ghost use Rattle.subdir_list.specs.declared.ends.ListEnd.TheVariants as end;
 
 use dired_text::Memory;
-use std::alloc::AllocFailed;
+use std::alloc::{AllocError, AllocFailed};
 use tree_core::CallName;
 
 /// Why a listing isn't made.
@@ -29,6 +29,14 @@ impl<T: Drop> From<AllocFailed<T>> for ListEnd {
     ghost from_gives = { λ _ e. e ≡ end.Memory };
 
     fn from(_error: AllocFailed<T>) -> ListEnd {
+        ListEnd::Memory
+    }
+}
+
+impl From<AllocError> for ListEnd {
+    ghost from_gives = { λ _ e. e ≡ end.Memory };
+
+    fn from(_error: AllocError) -> ListEnd {
         ListEnd::Memory
     }
 }

@@ -1,16 +1,16 @@
 // The sections of a listing.
-ghost use Rattle.std.specs.Prelude.{◌≡◌, ◌∷◌, ◌++◌, [], IfOk, IfErr, OnOk, OnErr, None, is_some, map, codes};
-ghost use Rattle.std.specs.FinMap.{get, entries};
+ghost use Rattle.std.specs.Prelude.{◌≡◌, All, IfOk, IfErr, OnOk, None, map};
+ghost use Rattle.std.specs.FinMap.{get};
 ghost use Rattle.tree_core.specs.FileTree.{IsDir, is_dir_node};
 ghost use Rattle.tree_core.specs.History.{current_tree};
-ghost use Rattle.subdir_list.specs.Listings.{IsListing, IsSection, AreSections, first_other, Refuses, ListsByFault, ListFound, listing_of, apart};
+ghost use Rattle.subdir_list.specs.Listings.{IsListing, IsSection, first_other, listed_paths, Refuses, ListsByFault, ListFound};
 
 use crate::ListEnd;
 use crate::lines::list_dir;
 use dired_text::{Bytes, Memory, Path};
 use listing_text::{Line, Switches, section_text};
 use std::alloc::Global;
-use std::collections::BTreeMap;
+use std::collections::BTreeSet;
 use tree_core::{CallName, Kind, Tree};
 
 /// The text of a listing: `dired 1`, and behind it one section for the root and one for each of these directories, each
@@ -26,29 +26,51 @@ pub fn list_dirs<T: Tree>(
     switches: &Switches,
 ) -> Result<Bytes, ListEnd>
     ensures listing { T.Tells → IfOk result (λ text. IsListing switches.now (current_tree (T.history tree.old)) (T.fields tree.old) dirs.now text) }
-    ensures all { T.Tells → OnOk result (first_other (current_tree (T.history tree.old)) dirs.now ≡ None) }
-    ensures refused { T.Tells → IfErr result (λ end. Refuses end (first_other (current_tree (T.history tree.old)) dirs.now)) }
+    ensures all { T.Tells → OnOk result (first_other (current_tree (T.history tree.old)) 0 dirs.now ≡ None) }
+    ensures refused { T.Tells → IfErr result (λ end. Refuses end (first_other (current_tree (T.history tree.old)) 0 dirs.now)) }
     ensures history { T.Tells → T.history tree.new ≡ T.history tree.old }
     ensures fields { T.Tells → T.fields tree.new ≡ T.fields tree.old }
     ensures found { T.Tells → ListFound result (current_tree (T.history tree.old)) (T.before_failed tree.old) (T.before_failed tree.new) }
     ensures cause { ListsByFault result (T.faults tree.old) (T.faults tree.new) }
 {
-    let mut sections = BTreeMap::new(alloc);
-    let root = Path::root(alloc);
-    let text = section_of(alloc, tree, &root, switches)?;
-    sections.insert(root, text)?;
+    let paths = paths_of(alloc, tree, dirs)?;
+    let mut text = Vec::new(alloc);
+    text.extend_from_slice(b"dired 1")?;
+    for path in &paths {
+        let section = section_of(alloc, tree, path, switches)?;
+        text.push(b'\n')?;
+        text.extend_from_slice(section.as_slice())?;
+    }
+    Ok(Bytes::from_vec(text))
+}
+
+// The root and these directories, each once, in the order of their paths.
+fn paths_of<T: Tree>(alloc: Global, tree: &mut T, dirs: &[Path]) -> Result<Vec<Path>, ListEnd>
+    ensures paths { IfOk result (λ paths. paths.items ≡ listed_paths dirs.now) }
+    ensures dirs { T.Tells → IfOk result (λ paths. All (λ p. IsDir (current_tree (T.history tree.old)) p) paths.items) }
+    ensures all { T.Tells → OnOk result (first_other (current_tree (T.history tree.old)) 0 dirs.now ≡ None) }
+    ensures refused { T.Tells → IfErr result (λ end. Refuses end (first_other (current_tree (T.history tree.old)) 0 dirs.now)) }
+    ensures history { T.Tells → T.history tree.new ≡ T.history tree.old }
+    ensures fields { T.Tells → T.fields tree.new ≡ T.fields tree.old }
+    ensures found { T.Tells → ListFound result (current_tree (T.history tree.old)) (T.before_failed tree.old) (T.before_failed tree.new) }
+    ensures cause { ListsByFault result (T.faults tree.old) (T.faults tree.new) }
+{
+    let mut paths = BTreeSet::new(alloc);
+    paths.insert(Path::root(alloc))?;
     for index in 0..dirs.len() {
-        let dir = &dirs[index];
-        if sections.contains_key(dir) {
-            continue;
-        }
-        if !is_dir(tree, dir)? {
+        if !is_dir(tree, &dirs[index])? {
             return Err(ListEnd::NotDirectory(index as u64));
         }
-        let text = section_of(alloc, tree, dir, switches)?;
-        sections.insert(dir.copy()?, text)?;
+        paths.insert(dirs[index].copy()?)?;
     }
-    Ok(joined(alloc, &sections)?)
+    Ok(all_of(alloc, paths)?)
+}
+
+// The paths of a set, in their order.
+fn all_of(alloc: Global, paths: BTreeSet<Path>) -> Result<Vec<Path>, Memory>
+    ensures { IfOk result (λ all. all.items ≡ paths.keys) }
+{
+    Ok(paths.into_iter().collect(alloc)?)
 }
 
 // Whether a directory stands at a path.
@@ -89,26 +111,5 @@ fn section_of<T: Tree>(
 fn marked(alloc: Global, lines: Vec<Line>) -> Result<Vec<(u8, Line)>, Memory>
     ensures { IfOk result (λ marked. marked.items ≡ map (λ line. (32, line)) lines.items) }
 {
-    let mut all = Vec::with_capacity(alloc, lines.len())?;
-    for line in lines {
-        all.push((b' ', line))?;
-    }
-    Ok(all)
-}
-
-// The text of a listing with these sections.
-fn joined(alloc: Global, sections: &BTreeMap<Path, Bytes>) -> Result<Bytes, Memory>
-    ensures { IfOk result (λ text. text ≡ listing_of sections.now) }
-{
-    let mut text = Vec::new(alloc);
-    text.extend_from_slice(b"dired 1\n")?;
-    let mut is_first = true;
-    for section in sections.values() {
-        if !is_first {
-            text.push(b'\n')?;
-        }
-        text.extend_from_slice(section.as_slice())?;
-        is_first = false;
-    }
-    Ok(Bytes::from_vec(text))
+    Ok(lines.into_iter().map(|line| (b' ', line)).collect(alloc)?)
 }
