@@ -5,6 +5,8 @@ use Rattle.std.proofs.lemmas.List.{take_more, append-nil}
 use Rattle.std.proofs.lemmas.List.Elements.{filter_map-append}
 use Rattle.std.proofs.lemmas.List.Folds.{list_any-append}
 use Rattle.std.proofs.lemmas.Option.{same_Some}
+use Rattle.std.proofs.lemmas.Slice.Eq.{bytes_eq-Decides}
+use Rattle.std.specs.Str.{bytes_eq}
 use Rattle.std.specs.Bool.{Decides}
 use Rattle.std.proofs.lemmas.Bool.Decides.{same_from_decides}
 use Rattle.std.proofs.lemmas.Map.Lookups.{exact_bytes, btree_set_from_contains}
@@ -23,7 +25,7 @@ use Rattle.dired_text.proofs.PathLemmas.{rest_below-append, rest_below-some, app
 use Rattle.tree_core.specs.declared.node.Node.{Node}
 use Rattle.tree_core.specs.declared.rows.Row.{Row}
 use Rattle.tree_core.specs.FileTree.{FileTree, IsAbsent, IsEmptyAt}
-use Rattle.tree_core.specs.Fields.{only_name, child_name, names_in, RiseStrictly}
+use Rattle.tree_core.specs.Fields.{only_name, child_name, names_in, RiseStrictly, NamesStand, NamesEnd}
 use Rattle.tree_core.specs.Mem.{pairs, tree_of}
 use Rattle.tree_core.proofs.MemLemmas.{entry_tree}
 use Rattle.tree_core.proofs.TreeLemmas.{Entries, tie, tie-other}
@@ -242,3 +244,23 @@ childless rows p b is = (
   λ t n. none_absent _ (sym (any_rows rows p n) ∙ ap (list_any (tie_name n)) (children_of rows p (sym is ∙ not_false b t))),
   λ empty. ap not (is ∙ some_child rows p (no_names _ (λ n. any_rows rows p n ∙ absent_none _ (empty n))))
 )
+
+-- ---- the laws
+
+name_decides : (n x : List ℕ) → Decides (tie_name n x) (n ≡ x)
+name_decides n x = (λ t. exact_bytes n x (equal (slice_cmp nat_cmp n x) t), λ same. ap (λ y. tie_name n y) (sym same) ∙ ap is_eq (total_tied_itself nat_list_cmp_total n))
+  where
+    equal : (o : Ordering) → is_eq o ≡ true → o ≡ Equal
+    equal Less t = cc
+    equal Equal t = refl
+    equal Greater t = cc
+
+any_bytes : (n : List ℕ) (l : List (List ℕ)) → list_any (bytes_eq n) l ≡ list_any (tie_name n) l
+any_bytes n [] = refl
+any_bytes n (x ∷ l) = λ i. same_from_decides (bytes_eq n x) (tie_name n x) (bytes_eq-Decides n x) (name_decides n x) i || any_bytes n l i
+
+pub names_stand : NamesStand
+names_stand t p n = any_bytes n (names_in t p) ∙ any_in t p n
+
+pub names_end : NamesEnd
+names_end t p = (names_empty t p, empty_names t p)
