@@ -1,6 +1,7 @@
 // Minutes as dates and times of day, in UTC.
-ghost use Rattle.std.specs.Prelude.{◌≡◌, ◌≤◌, ◌<◌, ◌++◌, OnOk};
-ghost use Rattle.listing_text.specs.Dates.{minute_text, minute_of as minute_of_text, minute_of_second, two_digits, four_digits, two_of, four_of, moment_of, stamp};
+ghost use Rattle.std.specs.Prelude.{◌≡◌, ◌≤◌, ◌<◌, ◌++◌, OnOk, ◌≤ℤ◌, ◌*ℤ◌, pos};
+ghost use Rattle.listing_text.specs.Dates.{minute_text, minute_of as minute_of_text, minute_of_second, two_digits, four_digits, two_of, four_of, moment_of, stamp, first_minute, last_minute};
+ghost use Rattle.jiff.specs.Words.{civil_nanos};
 
 use dired_text::Memory;
 use jiff::Timestamp;
@@ -53,9 +54,7 @@ fn shown_moment(minute: i64) -> Moment
     ensures hour { result.hour < 100 }
     ensures minute { result.minute < 100 }
 {
-    let shown = minute.clamp(FIRST_MINUTE, LAST_MINUTE);
-    let instant = Timestamp::from_second(shown * 60).unwrap_or(Timestamp::UNIX_EPOCH);
-    let civil = Offset::UTC.to_datetime(instant).to_plain();
+    let civil = civil_at(minute.clamp(FIRST_MINUTE, LAST_MINUTE)).to_plain();
     Moment {
         year: civil.date.year.unsigned_abs(),
         month: civil.date.month,
@@ -63,6 +62,16 @@ fn shown_moment(minute: i64) -> Moment
         hour: civil.time.hour,
         minute: civil.time.minute,
     }
+}
+
+// What a clock in UTC shows at a minute of the years 1 to 9998.
+fn civil_at(minute: i64) -> DateTime
+    requires first { first_minute ≤ℤ minute }
+    requires last { minute ≤ℤ last_minute }
+    ensures { civil_nanos result ≡ minute *ℤ pos 60_000_000_000 }
+{
+    let instant = Timestamp::from_second(minute * 60).unwrap_or(Timestamp::UNIX_EPOCH);
+    Offset::UTC.to_datetime(instant)
 }
 
 fn push_two(text: &mut Vec<u8>, number: u8) -> Result<(), Memory>
