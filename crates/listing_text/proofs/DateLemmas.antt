@@ -1,18 +1,21 @@
 -- Dates.
-use Rattle.std.proofs.Common.{◌≡◌, inl, inr, ℕ, zero, suc, ◌+◌, ◌-◌, ◌*◌, ◌/◌, ◌%◌, ◌<◌, ◌≤◌, Bool, true, false, List, [], ◌∷◌, ◌++◌, length, refl, sym, ◌∙◌, ap, subst, arith, Option, Some, None, ℤ, pos, negsuc, neg_ℤ, ◌+ℤ◌, ◌-ℤ◌, ◌*ℤ◌, ◌≤ℤ◌, ◌<ℤ◌, int_le, unsigned_abs}
-use Rattle.std.proofs.lemmas.Bool.{cases_eq}
+use Rattle.std.proofs.Common.{◌≡◌, inl, inr, ℕ, zero, suc, ◌+◌, ◌-◌, ◌*◌, ◌/◌, ◌%◌, ◌<◌, ◌≤◌, true, false, List, [], ◌∷◌, length, refl, sym, ◌∙◌, ap, subst, arith, Some, None, ℤ, pos, negsuc, neg_ℤ, ◌+ℤ◌, ◌-ℤ◌, ◌*ℤ◌, ◌≤ℤ◌, ◌<ℤ◌, int_le, unsigned_abs, to_z, w8, w16, nat_le, ◌&&◌, Result, Ok, Err, IsOk, IfOk, int_div}
+use Rattle.std.proofs.lemmas.Bool.{cases_eq, cases_Bool, and_parts, leb-true, le-leb}
 use Rattle.std.proofs.lemmas.Int.{ints, clamps, by_lt_z}
 use Rattle.std.specs.Int.{int_div_euclid, int_rem_euclid}
 use Rattle.jiff_core.specs.declared.civil.datetime.DateTime.{DateTime}
-use Rattle.jiff_core.specs.Calendar.{days_from_civil, day_count, IsCivilDate}
+use Rattle.jiff_core.specs.Calendar.{days_from_civil, day_count, days_in_month, IsCivilDate, IsDate}
+use Rattle.jiff_core.specs.Time.{IsTime}
 use Rattle.jiff_core.specs.Date.{epoch_day}
 use Rattle.jiff_core.specs.DateTime.{civil_nanos}
+use Rattle.jiff_core.specs.Timestamp.{IsTimestampNanos}
+use Rattle.std.specs.Result.{result_unwrap_or}
 use Rattle.jiff_core.proofs.CalendarLemmas.{days_from_civil-day_count, day_count-day_of_year, day_count-day, day_count-lt_year, day_count-lt_month, day_count-later_year}
-use Rattle.jiff_core.proofs.DateLemmas.{civil}
-use Rattle.jiff_core.proofs.DateTimeLemmas.{civil_nanos-parts}
+use Rattle.jiff_core.proofs.DateLemmas.{civil as civil_date}
+use Rattle.jiff_core.proofs.DateTimeLemmas.{civil_nanos-parts, time_nanos_bound}
 use Rattle.jiff_core.proofs.MarchLemmas.{day_count-early}
 use Rattle.jiff_core.proofs.SignedLemmas.{signed_arith, int_div_euclid-parts, int_rem_euclid-parts, unsigned_abs-parts}
-use Rattle.listing_text.specs.Dates.{minute_of, latest, year_of, month_of, day_of, stamp, stamp_of, shown_minute, first_minute, last_minute, minute_text}
+use Rattle.listing_text.specs.Dates.{minute_of, latest, year_of, month_of, day_of, stamp, stamp_of, shown_minute, first_minute, last_minute, minute_text, is_moment, moment_of, minute_at, civil_minute}
 use borrow.Author.Differences.{up, down}
 
 pub minute_of-short : (text : List ℕ) → length text < 16 → minute_of text ≡ None
@@ -130,9 +133,103 @@ stamp-civil dt minute e =
     let day : int_div_euclid n (pos 1440) ≡ epoch_day dt.date = whole.0 in
     let passed : unsigned_abs (int_rem_euclid n (pos 1440)) ≡ dt.time.hour * 60 + dt.time.minute = whole.1 in
     let quotient = int_div_euclid-parts n 1440 (omega arith) in
-    let years = year-bounds dt.date.year dt.date.month dt.date.day (civil dt.date) (omega (arith, signed_arith, bounds.0, whole.0, quotient)) (omega (arith, signed_arith, bounds.1, whole.0, quotient)) in
+    let years = year-bounds dt.date.year dt.date.month dt.date.day (civil_date dt.date) (omega (arith, signed_arith, bounds.0, whole.0, quotient)) (omega (arith, signed_arith, bounds.1, whole.0, quotient)) in
     let k = unsigned_abs dt.date.year in
     let year : dt.date.year ≡ pos k = not_negative dt.date.year years.0 in
-    let date : IsCivilDate (pos k) dt.date.month dt.date.day = subst (λ y. IsCivilDate y dt.date.month dt.date.day) year (civil dt.date) in
+    let date : IsCivilDate (pos k) dt.date.month dt.date.day = subst (λ y. IsCivilDate y dt.date.month dt.date.day) year (civil_date dt.date) in
     let days : epoch_day dt.date ≡ days_from_civil (pos k) dt.date.month dt.date.day = ap (λ y. days_from_civil y dt.date.month dt.date.day) year in
     rw (day, passed, days) (sym (stamp_of-civil k dt.date.month dt.date.day dt.time.hour dt.time.minute (omega (arith, signed_arith, years.0, year)) (omega (arith, signed_arith, years.1, year)) date (omega arith)))
+
+-- the parts of the test of a date and a time
+moment-parts : (y mo d h mi : ℕ) → is_moment y mo d h mi ≡ true
+    → (1 ≤ y) × (y ≤ 9998) × (1 ≤ mo) × (mo ≤ 12) × (1 ≤ d) × (d ≤ days_in_month (pos y) mo) × (h ≤ 23) × (mi ≤ 59)
+moment-parts y mo d h mi is =
+    let p7 = and_parts (nat_le 1 y && nat_le y 9998 && nat_le 1 mo && nat_le mo 12 && nat_le 1 d && nat_le d (days_in_month (pos y) mo) && nat_le h 23) (nat_le mi 59) is in
+    let p6 = and_parts (nat_le 1 y && nat_le y 9998 && nat_le 1 mo && nat_le mo 12 && nat_le 1 d && nat_le d (days_in_month (pos y) mo)) (nat_le h 23) p7.0 in
+    let p5 = and_parts (nat_le 1 y && nat_le y 9998 && nat_le 1 mo && nat_le mo 12 && nat_le 1 d) (nat_le d (days_in_month (pos y) mo)) p6.0 in
+    let p4 = and_parts (nat_le 1 y && nat_le y 9998 && nat_le 1 mo && nat_le mo 12) (nat_le 1 d) p5.0 in
+    let p3 = and_parts (nat_le 1 y && nat_le y 9998 && nat_le 1 mo) (nat_le mo 12) p4.0 in
+    let p2 = and_parts (nat_le 1 y && nat_le y 9998) (nat_le 1 mo) p3.0 in
+    let p1 = and_parts (nat_le 1 y) (nat_le y 9998) p2.0 in
+    (leb-true 1 y p1.0, leb-true y 9998 p1.1, leb-true 1 mo p2.1, leb-true mo 12 p3.1, leb-true 1 d p4.1, leb-true d (days_in_month (pos y) mo) p5.1, leb-true h 23 p6.1, leb-true mi 59 p7.1)
+
+days-few : (y : ℤ) (mo : ℕ) → days_in_month y mo ≤ 31
+days-few y mo = grind arith
+
+-- numbers that were cast to signed types are what they were
+cast16 : (n : ℕ) → n ≤ 9998 → to_z w16 n ≡ pos n
+cast16 n h = omega (arith, ints)
+
+cast8 : (n : ℕ) → n ≤ 99 → to_z w8 n ≡ pos n
+cast8 n h = omega (arith, ints)
+
+IsCast : ℕ → ℕ → ℕ → ℕ → ℕ → Type 0
+IsCast y mo d h mi = IsDate (to_z w16 y) (to_z w8 mo) (to_z w8 d) × IsTime (to_z w8 h) (to_z w8 mi) (pos 0) (pos 0)
+
+cast-from-moment : (y mo d h mi : ℕ) → is_moment y mo d h mi ≡ true → IsCast y mo d h mi
+unfolding IsCast
+cast-from-moment y mo d h mi is =
+    let p = moment-parts y mo d h mi is in
+    let low : d ≤ 31 = omega (arith, p.5, days-few (pos y) mo) in
+    rw (cast16 y p.1, cast8 mo (omega (arith, p.3)), cast8 d (omega arith), cast8 h (omega (arith, p.6)), cast8 mi (omega (arith, p.7)))
+    (((omega (arith, signed_arith), omega (arith, signed_arith, p.1)), (omega (arith, signed_arith, p.2), omega (arith, signed_arith, p.3)), (omega (arith, signed_arith, p.4), omega (arith, signed_arith, p.5))),
+      ((omega (arith, signed_arith), omega (arith, signed_arith, p.6)), (omega (arith, signed_arith), omega (arith, signed_arith, p.7)), (omega (arith, signed_arith), omega (arith, signed_arith)), (omega (arith, signed_arith), omega (arith, signed_arith))))
+
+-- a constructor that refuses the casts, and one that takes them
+pub moment-none : (y mo d h mi : ℕ) → ((IsDate (to_z w16 y) (to_z w8 mo) (to_z w8 d) × IsTime (to_z w8 h) (to_z w8 mi) (pos 0) (pos 0)) → ⊥) → moment_of y mo d h mi ≡ None
+unfolding moment_of IsCast
+moment-none y mo d h mi refused = elim (cases_Bool (is_moment y mo d h mi)) [
+  | inl is ↦ absurd (refused (cast-from-moment y mo d h mi is))
+  | inr other ↦ rw other refl
+]
+
+pub moment-some : (y mo d h mi : ℕ) → 1 ≤ y → y ≤ 9998 → mo ≤ 12 → d ≤ 31 → h ≤ 23 → mi ≤ 59
+    → IsDate (to_z w16 y) (to_z w8 mo) (to_z w8 d) × IsTime (to_z w8 h) (to_z w8 mi) (pos 0) (pos 0) → moment_of y mo d h mi ≡ Some (minute_at y mo d h mi)
+unfolding moment_of
+moment-some y mo d h mi first last month day hour minute taken =
+    let p : IsDate (pos y) (pos mo) (pos d) = rw (cast16 y last, cast8 mo (omega arith), cast8 d (omega arith)) at taken.0 in
+    let month_low : 1 ≤ mo = omega (arith, signed_arith, p.1.0) in
+    let day_low : 1 ≤ d = omega (arith, signed_arith, p.2.0) in
+    let day_high : d ≤ days_in_month (pos y) mo = omega (arith, signed_arith, p.2.1) in
+    rw (le-leb 1 y first, le-leb y 9998 last, le-leb 1 mo month_low, le-leb mo 12 month, le-leb 1 d day_low, le-leb d (days_in_month (pos y) mo) day_high, le-leb h 23 hour, le-leb mi 59 minute) refl
+
+same_number : (m n : ℕ) → pos m ≡ pos n → m ≡ n
+same_number m n e = ap unsigned_abs e
+
+pub civil_minute-is : (dt : DateTime) (y mo d h mi : ℕ) → y ≤ 9998 → mo ≤ 12 → d ≤ 31 → h ≤ 23 → mi ≤ 59
+    → dt.date.year ≡ to_z w16 y → pos dt.date.month ≡ to_z w8 mo → pos dt.date.day ≡ to_z w8 d → pos dt.time.hour ≡ to_z w8 h → pos dt.time.minute ≡ to_z w8 mi
+    → civil_minute dt ≡ minute_at y mo d h mi
+civil_minute-is dt y mo d h mi last month day hour minute ey emo ed eh emi =
+    rw (ey ∙ cast16 y last, same_number dt.date.month mo (emo ∙ cast8 mo (omega arith)), same_number dt.date.day d (ed ∙ cast8 d (omega arith)), same_number dt.time.hour h (eh ∙ cast8 h (omega arith)), same_number dt.time.minute mi (emi ∙ cast8 mi (omega arith))) refl
+
+-- the days of the years 1 to 9998
+pub day-bounds : (y : ℤ) (m d : ℕ) → IsCivilDate y m d → pos 1 ≤ℤ y → y ≤ℤ pos 9998 → (neg_ℤ (pos 719_162) ≤ℤ days_from_civil y m d) × (days_from_civil y m d ≤ℤ pos 2_932_531)
+day-bounds y m d h low high =
+    let first : day_count (pos 1) 1 1 ≤ day_count y 1 1 = by_lt_z (pos 1) y (λ above. omega (arith, day_count-later_year (pos 1) y (omega (arith, signed_arith)) above)) (λ le. let same : y ≡ pos 1 = omega (arith, signed_arith) in rw same (omega arith)) in
+    let last : y <ℤ pos 9999 = omega (arith, signed_arith) in
+    (omega (arith, signed_arith, days_from_civil-day_count y m d, first_day, day_count-day_of_year y m d h.2.0, h.2.0, first),
+      omega (arith, signed_arith, days_from_civil-day_count y m d, end_day, day_count-lt_year y m d (pos 9999) 1 1 h (omega arith) last))
+
+-- what a default replaces is no answer that is Ok
+pub kept : (T E : Type 0) (P : T → Type 0) (r : Result T E) (d i : T) → IsOk r → IfOk r P → i ≡ result_unwrap_or r d → P i
+kept T E P (Ok x) d i ok holds e = subst P (sym e) holds
+kept T E P (Err x) d i ok holds e = let no : false ≡ true = ok in cc
+
+quot-whole : (ns s : ℤ) → ns ≡ s *ℤ pos 1_000_000_000 → int_div ns (pos 1_000_000_000) ≡ s
+quot-whole ns s e = omega (arith, signed_arith)
+
+div-whole : (s m : ℤ) → s ≡ m *ℤ pos 60 → int_div_euclid s (pos 60) ≡ m
+div-whole s m e = omega (arith, signed_arith, int_div_euclid-parts s 60)
+
+-- the minute of an instant that falls on one
+pub minute-exact : (civil : DateTime) (ns : ℤ) → civil.time.second ≡ 0 → civil.time.subsec_nanosecond ≡ 0 → ns ≡ civil_nanos civil -ℤ pos 0 → int_div_euclid (int_div ns (pos 1_000_000_000)) (pos 60) ≡ civil_minute civil
+minute-exact civil ns whole exact e =
+    let day = epoch_day civil.date in
+    let s : ℤ = civil_minute civil *ℤ pos 60 in
+    let nanos : ns ≡ s *ℤ pos 1_000_000_000 = omega (arith, signed_arith, civil_nanos-parts civil, e, whole, exact) in
+    ap (λ z. int_div_euclid z (pos 60)) (quot-whole ns s nanos) ∙ div-whole s (civil_minute civil) refl
+
+pub civil-in-range : (civil : DateTime) → pos 1 ≤ℤ civil.date.year → civil.date.year ≤ℤ pos 9998 → IsTimestampNanos (civil_nanos civil -ℤ pos 0)
+civil-in-range civil low high =
+    let days = day-bounds civil.date.year civil.date.month civil.date.day (civil_date civil.date) low high in
+    (omega (arith, signed_arith, civil_nanos-parts civil, days.0, time_nanos_bound civil.time), omega (arith, signed_arith, civil_nanos-parts civil, days.1, time_nanos_bound civil.time))

@@ -1,10 +1,10 @@
 -- Numbers and their decimal texts.
-use Rattle.std.proofs.Common.{◌≡◌, ℕ, ◌+◌, ◌-◌, ◌*◌, ◌/◌, ◌%◌, ◌^◌, ◌<◌, ◌≤◌, Bool, true, false, not, ◌&&◌, ◌||◌, List, [], ◌∷◌, ◌++◌, length, get_or, refl, sym, ◌∙◌, ap, arith, Option, Some, None, decimal, length-append, Ok, Err, nat_le, eqb, ◌==◌, inl, inr}
-use Rattle.std.proofs.lemmas.Fmt.{decimal_step, decimal_digit, length-decimal-le}
+use Rattle.std.proofs.Common.{◌≡◌, ℕ, ◌+◌, ◌/◌, ◌%◌, ◌^◌, ◌<◌, ◌≤◌, Bool, true, false, not, ◌||◌, List, [], ◌∷◌, length, get_or, refl, ◌∙◌, ap, arith, Some, None, decimal, length-append, nat_le, suc, eqb, ◌==◌, inl, inr}
+use Rattle.std.proofs.lemmas.Fmt.{decimal_step, decimal_digit}
 use Rattle.std.specs.List.{list_all}
 use Rattle.std.specs.Str.{IsUtf8}
-use Rattle.std.specs.Str.Parse.{AllDigits, IsNumeral, digits_value, without_leading_plus, ParsesUnsigned}
-use Rattle.std.proofs.lemmas.Bool.{cases_lt, and_parts, and_right, leb-true, le-leb, lt-leb, ne_eqb}
+use Rattle.std.specs.Str.Parse.{AllDigits, IsNumeral, digits_value, without_leading_plus}
+use Rattle.std.proofs.lemmas.Bool.{cases_lt, and_parts, and_right, leb-true, le-leb, lt-leb, ne_eqb, eqb-true}
 use Rattle.std.proofs.lemmas.Str.{IsUtf8-from_ascii, digit_value_digit}
 use Rattle.std.proofs.lemmas.Fmt.{IsAscii-from_digits}
 use Rattle.listing_text.specs.Numbers.{is_digit, is_decimal, number_of}
@@ -26,12 +26,15 @@ digits-all (d ∷ ds) is =
     let bounds = is_digit-bounds d parts.0 in
     (omega (arith, digit_value_digit d bounds), digits-all ds parts.1)
 
+alone : (b : ℕ) (rest : Bool) → b ≡ 48 → (not (b == 48) || rest) ≡ true → rest ≡ true
+alone b rest zero_first is = let e : eqb b 48 ≡ true = rw zero_first refl in rw e at is
+
 -- the digits of a decimal text, of which the first is a zero only where it stands alone
 decimal-digits : (text : List ℕ) → is_decimal text ≡ true → (list_all is_digit text ≡ true) × (0 < length text) × (get_or text 0 0 ≡ 48 → length text ≡ 1)
 decimal-digits [] is = cc
 decimal-digits (b ∷ bs) is =
     let parts = and_parts (list_all is_digit (b ∷ bs)) (not (b == 48) || (length bs == 0)) is in
-    (parts.0, omega arith, λ zero_first. ?)
+    (parts.0, omega arith, λ zero_first. ap suc (eqb-true (length bs) 0 (alone b (length bs == 0) zero_first parts.1)))
 
 decimal-numeral : (text : List ℕ) → is_decimal text ≡ true → IsNumeral 10 text
 decimal-numeral text is = let parts = decimal-digits text is in (parts.1, digits-all text parts.0)
@@ -56,11 +59,14 @@ unfolding number_of
 number_of-large most text high = rw (lt-leb (digits_value 10 text) most high, and_right (is_decimal text) false refl) refl
 
 -- what parsing says of a decimal text
-pub parsed-ok : (E : Type 0) (text : List ℕ) (n : ℕ) → is_decimal text ≡ true → ParsesUnsigned {E = E} 64 10 text (Ok n) → n ≡ digits_value 10 text
-parsed-ok E text n is parsed = parsed.1 ∙ ap (digits_value 10) (no_plus text is)
+abbrev Parses : List ℕ → Type 0
+Parses text = IsNumeral 10 (without_leading_plus text) × (digits_value 10 (without_leading_plus text) < 2 ^ 64)
 
-pub parsed-err : (E : Type 0) (text : List ℕ) (e : E) → is_decimal text ≡ true → ParsesUnsigned {E = E} 64 10 text (Err e) → 2 ^ 64 ≤ digits_value 10 text
-parsed-err E text e is refused = elim (cases_lt (digits_value 10 text) (2 ^ 64)) [
+pub parsed-ok : (text : List ℕ) (n : ℕ) → is_decimal text ≡ true → Parses text × (n ≡ digits_value 10 (without_leading_plus text)) → n ≡ digits_value 10 text
+parsed-ok text n is parsed = parsed.1 ∙ ap (digits_value 10) (no_plus text is)
+
+pub parsed-err : (text : List ℕ) → is_decimal text ≡ true → ¬ (Parses text) → 2 ^ 64 ≤ digits_value 10 text
+parsed-err text is refused = elim (cases_lt (digits_value 10 text) (2 ^ 64)) [
   | inl small ↦ absurd (refused (rw (no_plus text is) (decimal-numeral text is, small)))
   | inr large ↦ large
 ]

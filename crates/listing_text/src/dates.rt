@@ -1,6 +1,6 @@
 // Minutes as dates and times of day, in UTC.
 ghost use Rattle.std.specs.Prelude.{◌≡◌, ◌≤◌, ◌<◌, ◌++◌, OnOk, ◌≤ℤ◌, ◌*ℤ◌, pos};
-ghost use Rattle.listing_text.specs.Dates.{minute_text, minute_of as minute_of_text, minute_of_second, two_digits, four_digits, two_of, four_of, moment_of, stamp, first_minute, last_minute};
+ghost use Rattle.listing_text.specs.Dates.{minute_text, minute_of as minute_of_text, minute_of_second, two_digits, four_digits, two_of, four_of, moment_of, stamp, civil_minute, first_minute, last_minute};
 ghost use Rattle.jiff.specs.Words.{civil_nanos};
 
 use dired_text::Memory;
@@ -139,7 +139,20 @@ fn minute_at(year: u16, month: u8, day: u8, hour: u8, minute: u8) -> Option<i64>
     if year < 1 || 9998 < year || month > 12 || day > 31 || hour > 23 || minute > 59 {
         return None;
     }
-    let civil = DateTime::new(year as i16, month as i8, day as i8, hour as i8, minute as i8, 0, 0).ok()?;
-    let instant = Offset::UTC.to_timestamp(civil).ok()?;
-    Some(instant.as_second().div_euclid(60))
+    match DateTime::new(year as i16, month as i8, day as i8, hour as i8, minute as i8, 0, 0) {
+        Ok(civil) => Some(minute_of_civil(civil)),
+        Err(_) => None,
+    }
+}
+
+// The minute at which a clock in UTC shows a date of the years 1 to 9998 and a time of day in whole minutes.
+fn minute_of_civil(civil: DateTime) -> i64
+    requires first_year { pos 1 ≤ℤ civil.date.year }
+    requires last_year { civil.date.year ≤ℤ pos 9998 }
+    requires seconds { civil.time.second ≡ 0 }
+    requires fraction { civil.time.subsec_nanosecond ≡ 0 }
+    ensures { result ≡ civil_minute civil }
+{
+    let instant = Offset::UTC.to_timestamp(civil).unwrap_or(Timestamp::UNIX_EPOCH);
+    instant.as_second().div_euclid(60)
 }

@@ -1,4 +1,4 @@
-use Rattle.std.proofs.Common.{◌≡◌, ◌<◌, None, refl, sym, ◌∙◌, ap, rules, arith, length, take, length-take, option_map}
+use Rattle.std.proofs.Common.{◌≡◌, ◌<◌, None, refl, arith, length, take, length-take}
 use Rattle.listing_text.specs.Dates.{minute_of}
 use Rattle.listing_text.specs.Fields.{date_in}
 use Rattle.listing_text.proofs.DateLemmas.{minute_of-short}

@@ -1,4 +1,4 @@
-use Rattle.std.proofs.Common.{◌≡◌, sym}
+use Rattle.std.proofs.Common.{sym}
 use Rattle.listing_text.proofs.NumberLemmas.{decimal-utf8}
 use Rattle.listing_text.proofs.numbers.read_number.Goals as goal
 

@@ -1,4 +1,4 @@
-use Rattle.std.proofs.Common.{◌≡◌, ◌+◌, ◌++◌, ◌∷◌, [], drop, sym, ◌∙◌, ap, rules, arith, append-nil}
+use Rattle.std.proofs.Common.{◌≡◌, ◌+◌, ◌++◌, ◌∷◌, [], drop, sym, ◌∙◌, ap, rules, append-nil}
 use Rattle.listing_text.specs.Listed.{lines_text, line_text_of}
 use Rattle.listing_text.proofs.ColumnLemmas.{lines-step, lines-end, with-newline}
 use Rattle.listing_text.proofs.writing.push_lines.Goals as goal
