@@ -11,6 +11,8 @@ mod ordering;
 mod plain;
 mod reading;
 mod switches;
+#[cfg(test)]
+mod tests;
 mod writing;
 
 pub use dates::minute_of;
