@@ -1,9 +1,9 @@
 // The lines of one directory.
-ghost use Rattle.std.specs.Prelude.{◌≡◌, ◌++◌, ◌∷◌, [], All, IfOk, IfErr, Some, map};
+ghost use Rattle.std.specs.Prelude.{◌≡◌, ◌++◌, ◌∷◌, [], All, IfOk, IfErr, None};
 ghost use Rattle.std.specs.List.{filter_map};
 ghost use Rattle.tree_core.specs.FileTree.{IsDir, Stands};
 ghost use Rattle.tree_core.specs.History.{current_tree};
-ghost use Rattle.subdir_list.specs.Listings.{is_hidden as is_hidden_name, line_of_meta, line_at, IsListed, ListsByFault, ListFound};
+ghost use Rattle.subdir_list.specs.Listings.{is_hidden as is_hidden_name, line_of_meta, line_at, IsListed, Refuses, ListsByFault, ListFound};
 
 use crate::ListEnd;
 use dired_text::{Name, Path, Text};
@@ -26,6 +26,7 @@ pub fn list_dir<T: Tree>(
     ensures lines { T.Tells → IfOk result (λ lines. IsListed switches.now (current_tree (T.history tree.old)) (T.fields tree.old) dir.now lines.items) }
     ensures history { T.Tells → T.history tree.new ≡ T.history tree.old }
     ensures fields { T.Tells → T.fields tree.new ≡ T.fields tree.old }
+    ensures refused { IfErr result (λ end. Refuses end None) }
     ensures found { T.Tells → ListFound result (current_tree (T.history tree.old)) (T.before_failed tree.old) (T.before_failed tree.new) }
     ensures cause { ListsByFault result (T.faults tree.old) (T.faults tree.new) }
 {
@@ -51,6 +52,7 @@ fn lines_of<T: Tree>(
     ensures lines { T.Tells → IfOk result (λ lines. lines.items ≡ filter_map (line_at (T.fields tree.old) switches.now dir.now) names.now) }
     ensures history { T.Tells → T.history tree.new ≡ T.history tree.old }
     ensures fields { T.Tells → T.fields tree.new ≡ T.fields tree.old }
+    ensures refused { IfErr result (λ end. Refuses end None) }
     ensures found { T.Tells → ListFound result (current_tree (T.history tree.old)) (T.before_failed tree.old) (T.before_failed tree.new) }
     ensures cause { ListsByFault result (T.faults tree.old) (T.faults tree.new) }
 {
@@ -75,6 +77,7 @@ fn line_in<T: Tree>(
     ensures line { T.Tells → IfOk result (λ line. line ≡ line_at (T.fields tree.old) switches.now dir.now name.now) }
     ensures history { T.Tells → T.history tree.new ≡ T.history tree.old }
     ensures fields { T.Tells → T.fields tree.new ≡ T.fields tree.old }
+    ensures refused { IfErr result (λ end. Refuses end None) }
     ensures found { T.Tells → ListFound result (current_tree (T.history tree.old)) (T.before_failed tree.old) (T.before_failed tree.new) }
     ensures cause { ListsByFault result (T.faults tree.old) (T.faults tree.new) }
 {

@@ -76,7 +76,7 @@ fn all_of(alloc: Global, paths: BTreeSet<Path>) -> Result<Vec<Path>, Memory>
 // Whether a directory stands at a path.
 fn is_dir<T: Tree>(tree: &mut T, path: &Path) -> Result<bool, ListEnd>
     ensures dir { T.Tells → IfOk result (λ b. b ≡ is_dir_node (get (current_tree (T.history tree.old)) path.now)) }
-    ensures refused { T.Tells → IfErr result (λ end. end ≡ ListEnd.TreeFault CallName.Kind) }
+    ensures refused { IfErr result (λ end. end ≡ ListEnd.TreeFault CallName.Kind) }
     ensures history { T.Tells → T.history tree.new ≡ T.history tree.old }
     ensures fields { T.Tells → T.fields tree.new ≡ T.fields tree.old }
     ensures found { T.Tells → ListFound result (current_tree (T.history tree.old)) (T.before_failed tree.old) (T.before_failed tree.new) }
@@ -97,7 +97,7 @@ fn section_of<T: Tree>(
 ) -> Result<Bytes, ListEnd>
     requires dir { T.Tells → IsDir (current_tree (T.history tree.old)) dir.now }
     ensures section { T.Tells → IfOk result (λ text. IsSection switches.now (current_tree (T.history tree.old)) (T.fields tree.old) dir.now text) }
-    ensures refused { T.Tells → IfErr result (λ end. Refuses end None) }
+    ensures refused { IfErr result (λ end. Refuses end None) }
     ensures history { T.Tells → T.history tree.new ≡ T.history tree.old }
     ensures fields { T.Tells → T.fields tree.new ≡ T.fields tree.old }
     ensures found { T.Tells → ListFound result (current_tree (T.history tree.old)) (T.before_failed tree.old) (T.before_failed tree.new) }
