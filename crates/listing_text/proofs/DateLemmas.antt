@@ -38,10 +38,10 @@ minute_of-short (x0 ∷ x1 ∷ x2 ∷ x3 ∷ x4 ∷ x5 ∷ x6 ∷ x7 ∷ x8 ∷ 
 minute_of-short (x0 ∷ x1 ∷ x2 ∷ x3 ∷ x4 ∷ x5 ∷ x6 ∷ x7 ∷ x8 ∷ x9 ∷ x10 ∷ x11 ∷ x12 ∷ x13 ∷ x14 ∷ []) short = refl
 minute_of-short (x0 ∷ x1 ∷ x2 ∷ x3 ∷ x4 ∷ x5 ∷ x6 ∷ x7 ∷ x8 ∷ x9 ∷ x10 ∷ x11 ∷ x12 ∷ x13 ∷ x14 ∷ x15 ∷ later) short = absurd (omega arith)
 
-le_test : (a b : ℤ) → a ≤ℤ b → int_le a b ≡ true
+pub le_test : (a b : ℤ) → a ≤ℤ b → int_le a b ≡ true
 le_test a b h = grind (arith, ints)
 
-lt_test : (a b : ℤ) → b <ℤ a → int_le a b ≡ false
+pub lt_test : (a b : ℤ) → b <ℤ a → int_le a b ≡ false
 lt_test a b h = grind (arith, ints)
 
 -- the latest is the one that begins by the day where each later one begins behind it
@@ -92,10 +92,10 @@ stamp_of-civil y m d hour minute low high h small =
 pub shown-bounds : (minute : ℤ) → (first_minute ≤ℤ shown_minute minute) × (shown_minute minute ≤ℤ last_minute)
 shown-bounds minute = (omega (arith, ints, clamps), omega (arith, ints, clamps))
 
-first_day : day_count (pos 1) 1 1 ≡ 3_652_791
+pub first_day : day_count (pos 1) 1 1 ≡ 3_652_791
 first_day = day_count-early (pos 1) 10000 1 1 refl (omega arith) (omega arith) (omega arith)
 
-end_day : day_count (pos 9999) 1 1 ≡ 7_304_485
+pub end_day : day_count (pos 9999) 1 1 ≡ 7_304_485
 end_day = day_count-early (pos 9999) 19998 1 1 refl (omega arith) (omega arith) (omega arith)
 
 -- a day from 0001-01-01 to 9998-12-31 is in one of these years
@@ -141,7 +141,7 @@ stamp-civil dt minute e =
     rw (day, passed, days) (sym (stamp_of-civil k dt.date.month dt.date.day dt.time.hour dt.time.minute (omega (arith, signed_arith, years.0, year)) (omega (arith, signed_arith, years.1, year)) date (omega arith)))
 
 -- the parts of the test of a date and a time
-moment-parts : (y mo d h mi : ℕ) → is_moment y mo d h mi ≡ true
+pub moment-parts : (y mo d h mi : ℕ) → is_moment y mo d h mi ≡ true
     → (1 ≤ y) × (y ≤ 9998) × (1 ≤ mo) × (mo ≤ 12) × (1 ≤ d) × (d ≤ days_in_month (pos y) mo) × (h ≤ 23) × (mi ≤ 59)
 moment-parts y mo d h mi is =
     let p7 = and_parts (nat_le 1 y && nat_le y 9998 && nat_le 1 mo && nat_le mo 12 && nat_le 1 d && nat_le d (days_in_month (pos y) mo) && nat_le h 23) (nat_le mi 59) is in
@@ -153,7 +153,7 @@ moment-parts y mo d h mi is =
     let p1 = and_parts (nat_le 1 y) (nat_le y 9998) p2.0 in
     (leb-true 1 y p1.0, leb-true y 9998 p1.1, leb-true 1 mo p2.1, leb-true mo 12 p3.1, leb-true 1 d p4.1, leb-true d (days_in_month (pos y) mo) p5.1, leb-true h 23 p6.1, leb-true mi 59 p7.1)
 
-days-few : (y : ℤ) (mo : ℕ) → days_in_month y mo ≤ 31
+pub days-few : (y : ℤ) (mo : ℕ) → days_in_month y mo ≤ 31
 days-few y mo = grind arith
 
 -- numbers that were cast to signed types are what they were

@@ -5,6 +5,7 @@ mod columns;
 mod dates;
 mod faults;
 mod fields;
+mod laws;
 mod line;
 mod numbers;
 mod ordering;
