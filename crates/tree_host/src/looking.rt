@@ -21,19 +21,21 @@ pub struct Found {
 /// What stands at a path, or None.
 pub fn look<R: Files>(rt: &R, alloc: Global, names: &[Name]) -> Result<Option<Found>, LookEnd> {
     let mut text = String::new(alloc);
-    let mut above = look_at(rt, ".")?;
+    // What stands above the next name; above the first one it is the root, a directory.
+    let mut above = None;
     for name in names {
-        if !is_dir(&above) {
-            return Ok(None);
-        }
         if !text.is_empty() {
+            if !is_dir(&above) {
+                return Ok(None);
+            }
             text.push_str("/")?;
         }
         text.push_str(name.as_str())?;
         above = look_at(rt, text.as_str())?;
     }
-    if text.is_empty() {
+    if names.is_empty() {
         text.push_str(".")?;
+        above = look_at(rt, ".")?;
     }
     Ok(above.map(|data| Found { text, data }))
 }
