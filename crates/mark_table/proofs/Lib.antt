@@ -1,2 +1,6 @@
+pub mod MapLemmas
 pub mod MarkLemmas
 pub mod MoveLemmas
+pub mod NumberLemmas
+pub mod RowLemmas
+pub mod VersionLemmas

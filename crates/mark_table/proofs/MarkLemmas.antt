@@ -19,6 +19,7 @@ use Rattle.std.proofs.lemmas.Map.Keys.{IsDistinct-from_sorted, sorted_head, sort
 use Rattle.std.proofs.lemmas.List.Elements.{All-nil, All-cons, All-head, All-tail, All-filter}
 use Rattle.dired_text.specs.Paths.{Names, path_cmp}
 use Rattle.dired_text.proofs.PathLemmas.{path_cmp-total, path_cmp-exact, path_decides}
+use Rattle.mark_table.proofs.MapLemmas.{find-lookup, get-lookup, entries-made}
 use Rattle.mark_table.specs.PathMarks.{PathMarks, IsMark, is_among, marked, with_each, changed, other_than, cleared, with_new, replaced}
 
 abbrev pub Entries : Type 0
@@ -38,12 +39,8 @@ seen b = fin.from_entries b.entries
 pub same_marks : (m n : PathMarks) → ((q : Names) → fin.get m q ≡ fin.get n q) → m ≡ n
 same_marks m n same = fin.same_map path_cmp-total path_cmp-exact m n same
 
-pub find-lookup : (es : Entries) (q : Names) → find path_cmp q es ≡ lookup (is_at (path_cmp q)) es
-find-lookup [] q = refl
-find-lookup (e ∷ es) q = ap (λ (o : Option ℕ). cond (tie q e.0) (Some e.1) o) (find-lookup es q)
-
 pub get-seen : (b : BTreeMap Names ℕ) (q : Names) → fin.get (seen b) q ≡ lookup (is_at (path_cmp q)) b.entries
-get-seen b q = fin.get-from_entries path_cmp-total b.entries q ∙ find-lookup b.entries q
+get-seen b q = get-lookup path_cmp-total path_cmp-exact b q
 
 pub get-marked : (m : PathMarks) (p : Names) (w : Option ℕ) (q : Names) → fin.get (marked m p w) q ≡ cond (tie q p) w (fin.get m q)
 get-marked m p None q = fin.get-remove path_cmp-total m p q
@@ -108,25 +105,8 @@ replaced-seen a b old new kept = same_marks _ _ (λ q.
     ∙ ap (with_new old new) (sym (get-seen a q))
     ∙ sym (get-changed_all (with_new old new) refl (seen a) q))
 
--- ---- the entries in path order
-
-both : (a b : Bool) → T a → T b → T (a && b)
-both true b p q = q
-both false b p q = absurd p
-
-below : (p : Names) (es : Entries) → AllByRecursion (λ y. path_cmp p y ≡ Less) (keys_of es) → T (below_all path_cmp p es)
-below p [] h = tt
-below p (e ∷ es) h = both _ _ (subst (λ o. T (is_lt o)) (sym h.0) tt) (below p es h.1)
-
-sorted : (es : Entries) → IsStrictlySortedBy path_cmp (keys_of es) → T (is_sorted path_cmp es)
-sorted [] h = tt
-sorted (e ∷ es) h = both _ _ (below e.0 es (sorted_head path_cmp e.0 (keys_of es) h)) (sorted es (sorted_tail path_cmp e.0 (keys_of es) h))
-
 pub entries-seen : (b : BTreeMap Names ℕ) → IsOrdered path_cmp b → fin.entries (seen b) ≡ b.entries
-entries-seen b ordered =
-    let s = sorted b.entries ordered in
-    ap fin.entries (same_marks (seen b) (fin.from_sorted b.entries) (λ q. fin.get-from_entries path_cmp-total b.entries q ∙ sym (fin.get-from_sorted path_cmp b.entries q s)))
-    ∙ fin.entries-from_sorted path_cmp b.entries s
+entries-seen b ordered = entries-made path_cmp-total path_cmp-exact b.entries ordered
 
 -- ---- a copy in the making
 
@@ -161,7 +141,7 @@ copy_goes_on e rest copy whole so_far = record {
   lawful = All-tail IsMark e.1 (values_of rest) so_far.lawful;
   shows = λ q. ap (option_or (find path_cmp q rest)) (fin.get-insert path_cmp-total copy e.0 e.1 q)
       ∙ one_more (tie q e.0) e.1 (find path_cmp q rest) (fin.get copy q) _
-      (λ t. find-lookup rest q ∙ lookup-none (is_at (path_cmp q)) rest (none_past_head tie_laws q e rest (IsDistinct-from_sorted path_cmp _ so_far.ordered) t))
+      (λ t. find-lookup path_cmp-total path_cmp-exact rest q ∙ lookup-none (is_at (path_cmp q)) rest (none_past_head tie_laws q e rest (IsDistinct-from_sorted path_cmp _ so_far.ordered) t))
       (so_far.shows q);
 }
 
