@@ -6,6 +6,8 @@ mod mark_map;
 mod moving;
 mod numbers;
 mod table;
+#[cfg(test)]
+mod tests;
 mod version;
 
 pub use backups::excess_backups;
