@@ -3,4 +3,5 @@ pub mod MarkLemmas
 pub mod MoveLemmas
 pub mod NumberLemmas
 pub mod RowLemmas
+pub mod TextLemmas
 pub mod VersionLemmas

@@ -1,5 +1,5 @@
 -- What the words on marks compute to at a path.
-use Rattle.std.proofs.Common.{◌+◌, ◌<◌, suc, add-one, length, drop, get_or, ◌≡◌, ℕ, Bool, true, false, cond, ◌&&◌, ◌||◌, not, ◌==◌, T, List, [], ◌∷◌, ◌++◌, map, filter, count_by, refl, sym, ◌∙◌, ap, subst, Option, Some, None, is_some}
+use Rattle.std.proofs.Common.{◌≡◌, ℕ, Bool, true, false, cond, ◌&&◌, ◌||◌, not, ◌==◌, T, List, [], ◌∷◌, ◌++◌, map, filter, count_by, refl, sym, ◌∙◌, ap, subst, Option, Some, None, is_some}
 use Rattle.std.specs.FinMap as fin
 use Rattle.std.specs.FinMap.{find, is_sorted}
 use Rattle.std.specs.FinMap.Entries.{below_all}
@@ -11,7 +11,6 @@ use Rattle.std.specs.declared.cmp.Ordering.TheVariants.{Less}
 use Rattle.std.specs.Cmp.{IsEquivalence, eq_by_cmp_equiv}
 use Rattle.std.specs.BTreeMap.{BTreeMap, Updates, IsOrdered, is_at}
 use Rattle.std.specs.Map.{lookup, keys_of, values_of}
-use Rattle.std.proofs.Math.Seq.{drop-cons}
 use Rattle.std.proofs.lemmas.Map.{lookup-none}
 use Rattle.std.proofs.lemmas.Map.Entries.{lookup-filter-values, option_filter, none_past_head}
 use Rattle.std.proofs.lemmas.Map.Made.{lookup-map_values}
@@ -175,15 +174,3 @@ pub lawful-replaced : (old new : ℕ) (es : Entries) → IsMark new → All IsMa
 lawful-replaced old new [] is all = all
 lawful-replaced old new (e ∷ es) is all =
     All-cons IsMark _ _ (chosen (e.1 == old) new e.1 is (All-head IsMark e.1 (values_of es) all)) (lawful-replaced old new es is (All-tail IsMark e.1 (values_of es) all))
-
--- ---- a loop over the paths of a rule
-
-pub rest_of : {X : Type 0} → (xs : List X) (i : ℕ) (x : X) → i < length xs → x ≡ get_or xs i x → drop i xs ≡ x ∷ drop (i + 1) xs
-rest_of xs i x within is = drop-cons xs i x within ∙ ap (λ y. y ∷ drop (suc i) xs) (sym is) ∙ ap (λ (n : ℕ). x ∷ drop n xs) (sym (add-one i))
-
-pub rule_kept : (rule : Names → Option ℕ) (ps : List Names) (i : ℕ) (p : Names) (m n : PathMarks) (wanted : PathMarks) → i < length ps → p ≡ get_or ps i p
-    → with_each rule (drop i ps) m ≡ wanted → n ≡ marked m p (rule p) → with_each rule (drop (i + 1) ps) n ≡ wanted
-rule_kept rule ps i p m n wanted within is so_far put =
-    ap (λ (k : PathMarks). with_each rule (drop (i + 1) ps) k) put
-    ∙ ap (λ (l : List Names). with_each rule l m) (sym (rest_of ps i p within is))
-    ∙ so_far

@@ -8,17 +8,12 @@ use Rattle.std.specs.Ordering.{eq_by_cmp}
 use Rattle.dired_text.specs.Paths.{Names, path_cmp}
 use Rattle.mark_table.specs.PathMarks.{PathMarks, is_among, marked, with_each}
 use Rattle.mark_table.specs.Moves.{Moves, sources, destinations, source_of, mark_from, mark_after, moved_marks}
-use Rattle.mark_table.proofs.MarkLemmas.{tie, same_marks, get-marked, get-with_each, rest_of}
+use Rattle.mark_table.proofs.MarkLemmas.{tie, same_marks, get-marked, get-with_each, tie_laws}
 
 -- ---- the sources lose their marks
 
 abbrev pub emptied : Moves → PathMarks → PathMarks
 emptied moves m = with_each (λ p. None) (sources moves) m
-
-pub emptied-step : (moves : Moves) (i : ℕ) (e : Names × Names) (m n wanted : PathMarks) → i < length moves → e ≡ get_or moves i e
-    → emptied (drop i moves) m ≡ wanted → n ≡ fin.remove m e.0 → emptied (drop (i + 1) moves) n ≡ wanted
-emptied-step moves i e m n wanted within is so_far removed =
-    ap (emptied (drop (i + 1) moves)) removed ∙ ap (λ (l : Moves). emptied l m) (sym (rest_of moves i e within is)) ∙ so_far
 
 pub emptied_all : (moves : Moves) (i : ℕ) (m wanted : PathMarks) → length moves ≤ i → emptied (drop i moves) m ≡ wanted → m ≡ wanted
 emptied_all moves i m wanted past so_far = sym (ap (λ (l : Moves). emptied l m) (drop_all i moves past)) ∙ so_far
@@ -85,3 +80,26 @@ pub all_moved : (moves : Moves) (m n r : PathMarks) → ((q : Names) → fin.get
     → ((q : Names) → fin.get r q ≡ mark_from m (source_of moves q) (fin.get n q)) → r ≡ moved_marks moves m
 all_moved moves m n r left come = same_marks r (moved_marks moves m) (λ q.
     come q ∙ ap (mark_from m (source_of moves q)) (left q) ∙ sym (get-moved_marks moves m q))
+
+-- ---- the laws
+
+found_last : (back : Moves) (e : Names × Names) → is_among e.1 (destinations back) ≡ false → source_of (e ∷ back) e.1 ≡ Some e.0
+found_last back e none =
+    ap (λ (o : Option Names). option_or o (cond (tie e.1 e.1) (Some e.0) None)) (no_source back e.1 none)
+    ∙ ap (λ (t : Bool). cond t (Some e.0) None) (tie_laws.refl e.1)
+
+found_behind : (front back : Moves) (e : Names × Names) → is_among e.1 (destinations back) ≡ false → source_of (front ++ e ∷ back) e.1 ≡ Some e.0
+found_behind [] back e none = found_last back e none
+found_behind (f ∷ front) back e none = ap (λ (o : Option Names). option_or o (cond (tie e.1 f.1) (Some f.0) None)) (found_behind front back e none)
+
+pub arrived_at : (moves front back : Moves) (m : PathMarks) (e : Names × Names) → moves ≡ front ++ e ∷ back → is_among e.1 (destinations back) ≡ false → fin.get (moved_marks moves m) e.1 ≡ fin.get m e.0
+arrived_at moves front back m e is none =
+    ap (λ (l : Moves). fin.get (moved_marks l m) e.1) is
+    ∙ get-moved_marks (front ++ e ∷ back) m e.1
+    ∙ ap (λ (o : Option Names). mark_from m o (cond (is_among e.1 (sources (front ++ e ∷ back))) None (fin.get m e.1))) (found_behind front back e none)
+
+pub elsewhere : (moves : Moves) (m : PathMarks) (p : Names) (b : Bool) → is_among p (sources moves) ≡ b → is_among p (destinations moves) ≡ false → fin.get (moved_marks moves m) p ≡ cond b None (fin.get m p)
+elsewhere moves m p b s d =
+    get-moved_marks moves m p
+    ∙ ap (λ (o : Option Names). mark_from m o (cond (is_among p (sources moves)) None (fin.get m p))) (no_source moves p d)
+    ∙ ap (λ (t : Bool). cond t None (fin.get m p)) s

@@ -29,7 +29,7 @@ digit_at (d ∷ ds) (suc i) all within = digit_at ds i (and_both (is_digit d) _ 
 pub digit_value_at : (ds : List ℕ) (i : ℕ) → list_all is_digit ds ≡ true → i < length ds → digit_value (get_or ds i 0) ≡ get_or ds i 0 - 48
 digit_value_at ds i all within = let b = digit_at ds i all within in digit_is _ b.0 b.1
 
-all_digits : (ds : List ℕ) → list_all is_digit ds ≡ true → AllDigits 10 ds
+pub all_digits : (ds : List ℕ) → list_all is_digit ds ≡ true → AllDigits 10 ds
 all_digits [] all = tt
 all_digits (d ∷ ds) all =
     let parts = and_both (is_digit d) (list_all is_digit ds) all in
@@ -65,9 +65,6 @@ behind_nothing (Some v) = refl
 behind_more : (front : List ℕ) (b : ℕ) (o : Option (List ℕ × ℕ)) → behind front (option_map (λ v. (b ∷ v.0, v.1)) o) ≡ behind (front ++ b ∷ []) o
 behind_more front b None = refl
 behind_more front b (Some v) = ap (λ (s : List ℕ). Some (s, v.1)) (sym (append_assoc front (b ∷ []) v.0))
-
-pub scan_begins : (t : List ℕ) → version_in t ≡ behind [] (version_in t)
-scan_begins t = sym (behind_nothing (version_in t))
 
 pub scan_goes_on : (t : List ℕ) (at : ℕ) → at < length t → version_in t ≡ behind (take at t) (version_in (drop at t)) → number_in (drop at t) ≡ None
     → version_in t ≡ behind (take (at + 1) t) (version_in (drop (at + 1) t))

@@ -5,8 +5,6 @@ use Rattle.std.specs.Map.{keys_of}
 use Rattle.std.specs.Str.{bytes_eq}
 use Rattle.std.proofs.Math.ListN.{get_or-map}
 use Rattle.std.proofs.lemmas.Map.Entries.{length-keys_of}
-use Rattle.std.proofs.lemmas.List.{take_more, append-nil, map-append}
-use Rattle.std.proofs.lemmas.List.Elements.{filter-append}
 use Rattle.std.specs.FinMap.{from_entries, insert, entries}
 use Rattle.std.specs.BTreeMap.{BTreeMap, Updates, IsOrdered}
 use Rattle.dired_text.specs.Paths.{Names}
@@ -62,27 +60,6 @@ pub row_newer_past : (rows : List Row) (at k : ℕ) (row : Row) → IsStrictlySo
 row_newer_past rows at k row s within past row_is =
     let len : length (keys_of rows) ≡ length rows = length-keys_of rows in
     lt_fails k (length rows - at) past ∙ newer_past (keys_of rows) at k row.0 s (omega arith) (omega arith) (key_at rows at row row_is)
-
--- ---- the rows that are picked
-
-next : (rows : List Row) (i : ℕ) (row : Row) → i < length rows → row ≡ get_or rows i row → take i rows ++ row ∷ [] ≡ take (i + 1) rows
-next rows i row within is = ap (λ (r : Row). take i rows ++ r ∷ []) is ∙ sym (take_more rows i row within)
-
-pub picked : (p : Row → Bool) (rows : List Row) (i : ℕ) (row : Row) (found : List Names) → i < length rows → row ≡ get_or rows i row → p row ≡ true
-    → found ≡ map (λ (r : Row). r.1) (filter p (take i rows)) → found ++ row.1 ∷ [] ≡ map (λ (r : Row). r.1) (filter p (take (i + 1) rows))
-picked p rows i row found within is passes so_far =
-    ap (λ (l : List Names). l ++ row.1 ∷ []) so_far
-    ∙ sym (map-append (λ (r : Row). r.1) (filter p (take i rows)) (row ∷ []))
-    ∙ ap (λ (l : List Row). map (λ (r : Row). r.1) (filter p (take i rows) ++ l)) (sym (ap (λ (b : Bool). cond b (row ∷ []) []) passes))
-    ∙ ap (map (λ (r : Row). r.1)) (sym (filter-append p (take i rows) (row ∷ [])))
-    ∙ ap (λ (l : List Row). map (λ (r : Row). r.1) (filter p l)) (next rows i row within is)
-
-pub passed : (p : Row → Bool) (rows : List Row) (i : ℕ) (row : Row) (found : List Names) → i < length rows → row ≡ get_or rows i row → p row ≡ false
-    → found ≡ map (λ (r : Row). r.1) (filter p (take i rows)) → found ≡ map (λ (r : Row). r.1) (filter p (take (i + 1) rows))
-passed p rows i row found within is fails so_far =
-    so_far
-    ∙ ap (map (λ (r : Row). r.1)) (sym (append-nil (filter p (take i rows))) ∙ ap (λ (b : Bool). filter p (take i rows) ++ cond b (row ∷ []) []) (sym fails) ∙ sym (filter-append p (take i rows) (row ∷ [])))
-    ∙ ap (λ (l : List Row). map (λ (r : Row). r.1) (filter p l)) (next rows i row within is)
 
 -- ---- one path more
 

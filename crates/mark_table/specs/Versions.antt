@@ -1,8 +1,9 @@
 -- Numeric backups: files named `BASE.~N~` (GNU Emacs Manual, "Backup Names"). Here N counts from 1 and is written in
 -- decimal without a leading zero, in at most 18 digits.
-use Rattle.std.specs.Prelude.{ℕ, ◌-◌, ◌==◌, Bool, ◌&&◌, not, nat_le, List, [], ◌∷◌, length, take, drop, slice_index, Option, Some, None, if◌then◌else◌}
+use Rattle.std.specs.Prelude.{ℕ, ◌-◌, ◌==◌, Bool, ◌&&◌, not, nat_le, List, [], ◌∷◌, ◌++◌, codes, length, take, drop, slice_index, Option, Some, None, if◌then◌else◌}
 use Rattle.std.specs.List.{list_all}
 use Rattle.std.specs.Option.{option_map}
+use Rattle.std.specs.Fmt.{decimal}
 use Rattle.std.specs.Str.Parse.{digits_value}
 
 abbrev pub is_digit : ℕ → Bool
@@ -24,6 +25,10 @@ is_version_text t =
 -- N of a text `.~N~`
 abbrev pub number_in : List ℕ → Option ℕ
 number_in t = if is_version_text t then Some (digits_value 10 (between t)) else None
+
+-- `.~N~`, as it is written
+abbrev pub version_text : ℕ → List ℕ
+version_text n = codes ".~" ++ decimal n ++ codes "~"
 
 abbrev pub found : Option ℕ → ℕ → Option (List ℕ × ℕ) → Option (List ℕ × ℕ)
 found (Some n) b more = Some ([], n)

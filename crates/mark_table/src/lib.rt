@@ -2,6 +2,7 @@
 #![tactic(auto)]
 
 mod backups;
+mod laws;
 mod mark_map;
 mod moving;
 mod numbers;
@@ -11,4 +12,8 @@ mod tests;
 mod version;
 
 pub use backups::excess_backups;
+pub use laws::{
+    backup_ends_with_its_number, changed_at_each_path, moved_at_each_path, toggled_at_each_path,
+    undo_takes_save_back,
+};
 pub use table::{MarkFault, Marks, is_mark};
