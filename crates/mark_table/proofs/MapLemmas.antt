@@ -1,5 +1,5 @@
 -- A map in memory as a finite map.
-use Rattle.std.proofs.Common.{◌≡◌, Bool, true, false, cond, ◌&&◌, T, List, [], ◌∷◌, refl, sym, ◌∙◌, ap, subst, Option, Some, None}
+use Rattle.std.proofs.Common.{◌≡◌, Bool, true, false, cond, ◌&&◌, T, List, [], ◌∷◌, refl, sym, ◌∙◌, ap, subst, Option, Some}
 use Rattle.std.specs.FinMap as fin
 use Rattle.std.specs.FinMap.{find, is_sorted, IsAntisymmetric}
 use Rattle.std.specs.FinMap.Entries.{below_all}
@@ -9,7 +9,7 @@ use Rattle.std.specs.declared.cmp.Ordering.{Ordering}
 use Rattle.std.specs.declared.cmp.Ordering.TheVariants.{Less}
 use Rattle.std.specs.Ordering.{eq_by_cmp, is_lt}
 use Rattle.std.specs.Cmp.{IsTotalOrder, eq_by_cmp_equiv}
-use Rattle.std.specs.BTreeMap.{BTreeMap, Updates, IsOrdered, is_at}
+use Rattle.std.specs.BTreeMap.{BTreeMap, Updates, is_at}
 use Rattle.std.specs.Map.{lookup, keys_of}
 use Rattle.std.proofs.lemmas.Map.Keys.{sorted_head, sorted_tail}
 

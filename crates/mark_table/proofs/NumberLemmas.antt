@@ -1,15 +1,15 @@
 -- Digits, and the places of a text where `.~N~` may stand.
-use Rattle.std.proofs.Common.{◌≡◌, ℕ, zero, suc, ◌+◌, ◌-◌, ◌*◌, ◌^◌, ◌<◌, ◌≤◌, ◌==◌, Bool, true, false, cond, ◌&&◌, nat_le, List, [], ◌∷◌, ◌++◌, length, take, drop, get_or, refl, sym, ◌∙◌, ap, subst, Option, Some, None, arith, append_assoc, IsTrue, lit<, add-one, length-drop}
+use Rattle.std.proofs.Common.{◌≡◌, ℕ, zero, suc, ◌+◌, ◌-◌, ◌^◌, ◌<◌, ◌≤◌, Bool, true, false, ◌&&◌, List, [], ◌∷◌, ◌++◌, length, take, drop, get_or, refl, sym, ◌∙◌, ap, Option, Some, None, arith, append_assoc, lit<, add-one, length-drop}
 use Rattle.std.specs.List.{list_all}
 use Rattle.std.specs.Option.{option_map}
 use Rattle.std.specs.Char.{digit_value}
 use Rattle.std.specs.Str.Parse.{digits_value, AllDigits}
 use Rattle.std.proofs.lemmas.Bool.Decides.{nat_tests}
-use Rattle.std.proofs.lemmas.Int.Digits.{digits_value-lt, digits_value_more}
+use Rattle.std.proofs.lemmas.Int.Digits.{digits_value-lt}
 use Rattle.std.proofs.lemmas.List.{length-take-le, append-nil, take_more, take_all}
 use Rattle.std.proofs.Math.Seq.{drop-cons}
 use Rattle.std.proofs.Math.Nat.{pow-le-pow_right}
-use Rattle.mark_table.specs.Versions.{is_digit, is_number, number_in, found, version_in}
+use Rattle.mark_table.specs.Versions.{is_digit, number_in, found, version_in}
 
 pub and_both : (a b : Bool) → (a && b) ≡ true → (a ≡ true) × (b ≡ true)
 and_both true b e = (refl, e)
@@ -72,7 +72,7 @@ scan_goes_on t at within so_far none =
     let b = get_or t at 0 in
     let rest : drop at t ≡ b ∷ drop (at + 1) t = rest_at t at within in
     let next : version_in (drop at t) ≡ option_map (λ v. (b ∷ v.0, v.1)) (version_in (drop (at + 1) t)) =
-        ap version_in rest ∙ ap (λ o. found o b (version_in (drop (at + 1) t))) (sym (ap number_in rest) ∙ none) in
+    ap version_in rest ∙ ap (λ o. found o b (version_in (drop (at + 1) t))) (sym (ap number_in rest) ∙ none) in
     so_far ∙ ap (behind (take at t)) next ∙ behind_more (take at t) b (version_in (drop (at + 1) t))
     ∙ ap (λ (f : List ℕ). behind f (version_in (drop (at + 1) t))) (sym (take_more t at 0 within))
 
@@ -82,7 +82,7 @@ scan_finds t at n within so_far some =
     let b = get_or t at 0 in
     let rest : drop at t ≡ b ∷ drop (at + 1) t = rest_at t at within in
     let here : version_in (drop at t) ≡ Some ([], n) =
-        ap version_in rest ∙ ap (λ o. found o b (version_in (drop (at + 1) t))) (sym (ap number_in rest) ∙ some) in
+    ap version_in rest ∙ ap (λ o. found o b (version_in (drop (at + 1) t))) (sym (ap number_in rest) ∙ some) in
     so_far ∙ ap (behind (take at t)) here ∙ ap (λ (s : List ℕ). Some (s, n)) (append-nil (take at t))
 
 pub to_the_end : (t : List ℕ) (at : ℕ) → take (length t - at) (drop at t) ≡ drop at t

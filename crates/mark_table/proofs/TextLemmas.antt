@@ -88,8 +88,8 @@ decimal_number n low high =
     let first : 48 < get_or (decimal n) 0 0 = first_decimal n (omega arith) fits in
     and_make (nat_le 1 (length (decimal n)) && nat_le (length (decimal n)) 18 && not (get_or (decimal n) 0 0 == 48)) _
     (and_make (nat_le 1 (length (decimal n)) && nat_le (length (decimal n)) 18) _
-      (and_make (nat_le 1 (length (decimal n))) _ (le_holds 1 _ (let some = decimal_nonempty n fits in omega arith)) (le_holds _ 18 (length-decimal-le 18 n (lit< tt) high fits)))
-      (not_eq_holds (get_or (decimal n) 0 0) 48 first))
+    (and_make (nat_le 1 (length (decimal n))) _ (le_holds 1 _ (let some = decimal_nonempty n fits in omega arith)) (le_holds _ 18 (length-decimal-le 18 n (lit< tt) high fits)))
+    (not_eq_holds (get_or (decimal n) 0 0) 48 first))
     (digits_hold (decimal n) (decimal_is_IsNumeral n fits).0.1)
 
 -- ---- `.~N~`
@@ -113,10 +113,10 @@ ending_holds : (t : List ℕ) → Ending t → is_version_text t ≡ true
 ending_holds t h =
     and_make (nat_le 4 (length t) && get_or t 0 0 == 46 && get_or t 1 0 == 126 && get_or t (length t - 1) 0 == 126) _
     (and_make (nat_le 4 (length t) && get_or t 0 0 == 46 && get_or t 1 0 == 126) _
-      (and_make (nat_le 4 (length t) && get_or t 0 0 == 46) _
-        (and_make (nat_le 4 (length t)) _ (le_holds 4 (length t) h.long) (eq_holds _ 46 h.dot))
-        (eq_holds _ 126 h.tilde))
-      (eq_holds _ 126 h.last))
+    (and_make (nat_le 4 (length t) && get_or t 0 0 == 46) _
+    (and_make (nat_le 4 (length t)) _ (le_holds 4 (length t) h.long) (eq_holds _ 46 h.dot))
+    (eq_holds _ 126 h.tilde))
+    (eq_holds _ 126 h.last))
     h.number
 
 spelled : (t : List ℕ) → Ending t → t ≡ 46 ∷ 126 ∷ (between t ++ 126 ∷ [])
@@ -182,7 +182,7 @@ written_here n low high =
     let some : 0 < length (decimal n) = decimal_nonempty n fits in
     let place : length (version_text n) - 1 ≡ length (46 ∷ 126 ∷ decimal n) = omega arith in
     let last : get_or (version_text n) (length (version_text n) - 1) 0 ≡ 126 =
-        ap (λ (i : ℕ). get_or (version_text n) i 0) place ∙ get_or-append_seam (46 ∷ 126 ∷ decimal n) 126 [] 0 in
+    ap (λ (i : ℕ). get_or (version_text n) i 0) place ∙ get_or-append_seam (46 ∷ 126 ∷ decimal n) 126 [] 0 in
     let test : is_version_text (version_text n) ≡ true = ending_holds (version_text n) (record {
       long = omega arith;
       dot = refl;
@@ -202,16 +202,16 @@ not_before b s n low high =
     let some : 0 < length (decimal n) = decimal_nonempty n (omega arith) in
     let place : 2 + length s ≡ length (b ∷ s) + 1 = omega arith in
     let tilde : get_or ((b ∷ s) ++ version_text n) (2 + length s) 0 ≡ 126 =
-        ap (λ (i : ℕ). get_or ((b ∷ s) ++ version_text n) i 0) place ∙ get_or-append-add (b ∷ s) (version_text n) 1 0 in
+    ap (λ (i : ℕ). get_or ((b ∷ s) ++ version_text n) i 0) place ∙ get_or-append-add (b ∷ s) (version_text n) 1 0 in
     let inside : get_or (between ((b ∷ s) ++ version_text n)) (length s) 0 ≡ 126 =
-        get_or-take (length ((b ∷ s) ++ version_text n) - 3) (drop 2 ((b ∷ s) ++ version_text n)) (length s) 0 (omega arith)
-        ∙ get_or-drop 2 ((b ∷ s) ++ version_text n) (length s) 0 ∙ tilde in
+    get_or-take (length ((b ∷ s) ++ version_text n) - 3) (drop 2 ((b ∷ s) ++ version_text n)) (length s) 0 (omega arith)
+    ∙ get_or-drop 2 ((b ∷ s) ++ version_text n) (length s) 0 ∙ tilde in
     let no_text : is_version_text ((b ∷ s) ++ version_text n) ≡ false = not_true _ (λ h.
-        let number = number_is (between ((b ∷ s) ++ version_text n)) (ending_is ((b ∷ s) ++ version_text n) h).number in
-        let size : length (between ((b ∷ s) ++ version_text n)) ≡ min (length ((b ∷ s) ++ version_text n) - 3) (length (drop 2 ((b ∷ s) ++ version_text n))) = length-take _ _ in
-        let behind : length (drop 2 ((b ∷ s) ++ version_text n)) ≡ length ((b ∷ s) ++ version_text n) - 2 = length-drop 2 ((b ∷ s) ++ version_text n) in
-        let digit = digit_at (between ((b ∷ s) ++ version_text n)) (length s) number.digits (omega arith) in
-        omega (arith, digit.1, inside)) in
+    let number = number_is (between ((b ∷ s) ++ version_text n)) (ending_is ((b ∷ s) ++ version_text n) h).number in
+    let size : length (between ((b ∷ s) ++ version_text n)) ≡ min (length ((b ∷ s) ++ version_text n) - 3) (length (drop 2 ((b ∷ s) ++ version_text n))) = length-take _ _ in
+    let behind : length (drop 2 ((b ∷ s) ++ version_text n)) ≡ length ((b ∷ s) ++ version_text n) - 2 = length-drop 2 ((b ∷ s) ++ version_text n) in
+    let digit = digit_at (between ((b ∷ s) ++ version_text n)) (length s) number.digits (omega arith) in
+    omega (arith, digit.1, inside)) in
     ap (λ (c : Bool). cond c (Some (digits_value 10 (between ((b ∷ s) ++ version_text n)))) None) no_text
 
 -- as the text after its first byte is scanned

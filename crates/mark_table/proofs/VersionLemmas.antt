@@ -1,7 +1,6 @@
 -- The order of versions, and where those of one file stand in a sorted list.
-use Rattle.std.proofs.Common.{◌≡◌, ℕ, zero, suc, ◌+◌, ◌-◌, ◌<◌, ◌≤◌, Bool, true, false, cond, ◌&&◌, nat_le, nat_lt, List, [], ◌∷◌, ◌++◌, map, filter, length, take, drop, get_or, refl, sym, ◌∙◌, ap, subst, arith, ◌⊎◌, inl, inr, length-append, length-drop, append_assoc, add-one}
+use Rattle.std.proofs.Common.{◌≡◌, ℕ, zero, suc, ◌+◌, ◌-◌, ◌<◌, ◌≤◌, Bool, true, false, cond, ◌&&◌, nat_le, nat_lt, List, [], ◌∷◌, ◌++◌, filter, length, take, drop, get_or, refl, sym, ◌∙◌, ap, subst, arith, length-append, length-drop, append_assoc, add-one}
 use Rattle.std.specs.FinMap.{IsAntisymmetric, nat_cmp-IsAntisymmetric, slice_cmp-IsAntisymmetric}
-use Rattle.std.specs.Bool.{Decides}
 use Rattle.std.specs.List.{AllByRecursion}
 use Rattle.std.specs.List.Sorted.{IsStrictlySortedBy}
 use Rattle.std.specs.declared.cmp.Ordering.{Ordering}
@@ -11,7 +10,7 @@ use Rattle.std.specs.Cmp.{IsTotalOrder, then_total, on_total, nat_cmp_total, tie
 use Rattle.std.specs.Cmp.Lexicographic.{slice_cmp, nat_list_cmp_total}
 use Rattle.std.specs.Str.{bytes_eq}
 use Rattle.std.proofs.lemmas.Slice.Eq.{bytes_eq-Decides}
-use Rattle.std.proofs.lemmas.Bool.Decides.{nat_tests, same_from_decides}
+use Rattle.std.proofs.lemmas.Bool.Decides.{nat_tests}
 use Rattle.std.proofs.lemmas.List.{take-append-drop, get_or-take, get_or-drop, length-take-le}
 use Rattle.std.proofs.lemmas.List.Elements.{filter-append}
 use Rattle.std.proofs.lemmas.Map.Keys.{sorted_head, sorted_tail}
@@ -206,17 +205,17 @@ module _ (a : List Version) (y : Version) (b : List Version) (v : Version) (back
       let y_to_v = at_seam (λ u. version_cmp y u ≡ Less) b v back outer.behind in
       let up_to_v = at_seam (λ u. version_cmp u v ≡ Less) a y b older_parts.before in
       let inner : of_file v y ≡ true → length (filter (of_file v) b) ≡ length b =
-          λ t. all_counted v b (between_all v y b (λ u. version_cmp y u ≡ Less) (λ u. version_cmp u v ≡ Less)
-            (λ u yu uv. is_file v u (between y u v yu uv (file_is v y t))) y_to_v.1 up_to_v.2) in
+      λ t. all_counted v b (between_all v y b (λ u. version_cmp y u ≡ Less) (λ u. version_cmp u v ≡ Less)
+      (λ u yu uv. is_file v u (between y u v yu uv (file_is v y t))) y_to_v.1 up_to_v.2) in
       let beyond : of_file v y ≡ false → length (filter (of_file v) a) ≡ 0 =
-          λ f. none_counted v a (beyond_none v a (λ u. version_cmp u y ≡ Less)
-            (λ u uy. not_true (of_file v u) (λ t. let here = is_file v y (between u y v uy y_to_v.0 (file_is v u t)) in cc)) outer.before) in
+      λ f. none_counted v a (beyond_none v a (λ u. version_cmp u y ≡ Less)
+      (λ u uy. not_true (of_file v u) (λ t. let here = is_file v y (between u y v uy y_to_v.0 (file_is v u t)) in cc)) outer.before) in
       let split : older ((a ++ y ∷ b) ++ v ∷ back) v ≡ length (filter (of_file v) a) + cond (of_file v y) 1 0 + length (filter (of_file v) b) =
-          ap length (filter-append (is_older v) (a ++ y ∷ b) (v ∷ back))
-          ∙ length-append (filter (is_older v) (a ++ y ∷ b)) (filter (is_older v) (v ∷ back))
-          ∙ ap (λ (l : List Version). length l + length (filter (is_older v) (v ∷ back))) (older-before v (a ++ y ∷ b) older_parts.before ∙ filter-append (of_file v) a (y ∷ b))
-          ∙ ap (λ (l : List Version). length (filter (of_file v) a ++ filter (of_file v) (y ∷ b)) + length l) (itself v back older_parts.behind)
-          ∙ sums _ _ _ _ _ (length-append (filter (of_file v) a) (filter (of_file v) (y ∷ b))) (one v y b) in
+      ap length (filter-append (is_older v) (a ++ y ∷ b) (v ∷ back))
+      ∙ length-append (filter (is_older v) (a ++ y ∷ b)) (filter (is_older v) (v ∷ back))
+      ∙ ap (λ (l : List Version). length l + length (filter (is_older v) (v ∷ back))) (older-before v (a ++ y ∷ b) older_parts.before ∙ filter-append (of_file v) a (y ∷ b))
+      ∙ ap (λ (l : List Version). length (filter (of_file v) a ++ filter (of_file v) (y ∷ b)) + length l) (itself v back older_parts.behind)
+      ∙ sums _ _ _ _ _ (length-append (filter (of_file v) a) (filter (of_file v) (y ∷ b))) (one v y b) in
       tally (of_file v y) _ _ (length b) inner beyond (counted-le (of_file v) b) ∙ ap (nat_le (length b + 1)) (sym split)
 
 not_itself : (v : Version) (back : List Version) → filter (is_newer v) (v ∷ back) ≡ filter (is_newer v) back
@@ -237,17 +236,17 @@ module _ (front : List Version) (v : Version) (b : List Version) (y : Version) (
       let from_v = at_seam (λ u. version_cmp v u ≡ Less) b y a newer_parts.behind in
       let to_y = at_seam (λ u. version_cmp u y ≡ Less) front v b far.before in
       let inner : of_file v y ≡ true → length (filter (of_file v) b) ≡ length b =
-          λ t. all_counted v b (between_all v y b (λ u. version_cmp v u ≡ Less) (λ u. version_cmp u y ≡ Less)
-            (λ u vu uy. is_file v u (between v u y vu uy (sym (file_is v y t)) ∙ file_is v y t)) from_v.1 to_y.2) in
+      λ t. all_counted v b (between_all v y b (λ u. version_cmp v u ≡ Less) (λ u. version_cmp u y ≡ Less)
+      (λ u vu uy. is_file v u (between v u y vu uy (sym (file_is v y t)) ∙ file_is v y t)) from_v.1 to_y.2) in
       let beyond : of_file v y ≡ false → length (filter (of_file v) a) ≡ 0 =
-          λ f. none_counted v a (beyond_none v a (λ u. version_cmp y u ≡ Less)
-            (λ u yu. not_true (of_file v u) (λ t. let here = is_file v y (between v y u from_v.0 yu (sym (file_is v u t)) ∙ file_is v u t) in cc)) far.behind) in
+      λ f. none_counted v a (beyond_none v a (λ u. version_cmp y u ≡ Less)
+      (λ u yu. not_true (of_file v u) (λ t. let here = is_file v y (between v y u from_v.0 yu (sym (file_is v u t)) ∙ file_is v u t) in cc)) far.behind) in
       let split : newer (front ++ v ∷ (b ++ y ∷ a)) v ≡ length (filter (of_file v) a) + cond (of_file v y) 1 0 + length (filter (of_file v) b) =
-          ap length (filter-append (is_newer v) front (v ∷ (b ++ y ∷ a)))
-          ∙ ap (λ (l : List Version). length (l ++ filter (is_newer v) (v ∷ (b ++ y ∷ a)))) (newer-before v front newer_parts.before)
-          ∙ ap length (not_itself v (b ++ y ∷ a))
-          ∙ ap length (newer-behind v (b ++ y ∷ a) newer_parts.behind ∙ filter-append (of_file v) b (y ∷ a))
-          ∙ turned _ _ _ _ _ (length-append (filter (of_file v) b) (filter (of_file v) (y ∷ a))) (one v y a) in
+      ap length (filter-append (is_newer v) front (v ∷ (b ++ y ∷ a)))
+      ∙ ap (λ (l : List Version). length (l ++ filter (is_newer v) (v ∷ (b ++ y ∷ a)))) (newer-before v front newer_parts.before)
+      ∙ ap length (not_itself v (b ++ y ∷ a))
+      ∙ ap length (newer-behind v (b ++ y ∷ a) newer_parts.behind ∙ filter-append (of_file v) b (y ∷ a))
+      ∙ turned _ _ _ _ _ (length-append (filter (of_file v) b) (filter (of_file v) (y ∷ a))) (one v y a) in
       tally (of_file v y) _ _ (length b) inner beyond (counted-le (of_file v) b) ∙ ap (nat_le (length b + 1)) (sym split)
 
 -- ---- by places
@@ -287,10 +286,10 @@ older_past vs at k v s within past v_is =
     let p = parts (take at vs) v (drop (at + 1) vs) (subst (IsStrictlySortedBy version_cmp) (sym whole) s) in
     let most = counted-le (is_older v) (take at vs) in
     let split : older vs v ≡ length (filter (is_older v) (take at vs)) + 0 =
-        ap (λ (l : List Version). older l v) (sym whole)
-        ∙ ap length (filter-append (is_older v) (take at vs) (v ∷ drop (at + 1) vs))
-        ∙ length-append (filter (is_older v) (take at vs)) (filter (is_older v) (v ∷ drop (at + 1) vs))
-        ∙ ap (λ (l : List Version). length (filter (is_older v) (take at vs)) + length l) (itself v (drop (at + 1) vs) p.behind) in
+    ap (λ (l : List Version). older l v) (sym whole)
+    ∙ ap length (filter-append (is_older v) (take at vs) (v ∷ drop (at + 1) vs))
+    ∙ length-append (filter (is_older v) (take at vs)) (filter (is_older v) (v ∷ drop (at + 1) vs))
+    ∙ ap (λ (l : List Version). length (filter (is_older v) (take at vs)) + length l) (itself v (drop (at + 1) vs) p.behind) in
     sym (leb_fails k (older vs v) (omega arith))
 
 pub newer_at : (vs : List Version) (at k : ℕ) (y v : Version) → IsStrictlySortedBy version_cmp vs → at < length vs → k < length vs - at → y ≡ get_or vs (at + k) y → v ≡ get_or vs at v
@@ -318,8 +317,8 @@ newer_past vs at k v s within past v_is =
     let p = parts (take at vs) v (drop (at + 1) vs) (subst (IsStrictlySortedBy version_cmp) (sym whole) s) in
     let most = counted-le (is_newer v) (drop (at + 1) vs) in
     let split : newer vs v ≡ length (filter (is_newer v) (drop (at + 1) vs)) =
-        ap (λ (l : List Version). newer l v) (sym whole)
-        ∙ ap length (filter-append (is_newer v) (take at vs) (v ∷ drop (at + 1) vs))
-        ∙ ap (λ (l : List Version). length (l ++ filter (is_newer v) (v ∷ drop (at + 1) vs))) (newer-before v (take at vs) p.before)
-        ∙ ap length (not_itself v (drop (at + 1) vs)) in
+    ap (λ (l : List Version). newer l v) (sym whole)
+    ∙ ap length (filter-append (is_newer v) (take at vs) (v ∷ drop (at + 1) vs))
+    ∙ ap (λ (l : List Version). length (l ++ filter (is_newer v) (v ∷ drop (at + 1) vs))) (newer-before v (take at vs) p.before)
+    ∙ ap length (not_itself v (drop (at + 1) vs)) in
     sym (leb_fails k (newer vs v) (omega arith))

@@ -15,11 +15,7 @@ use std::alloc::Global;
 use std::collections::BTreeMap;
 
 // Adds a path where it is that of a numeric backup.
-fn add(
-    alloc: Global,
-    backups: &mut BTreeMap<Version, Path>,
-    path: &Path,
-) -> Result<(), Memory>
+fn add(alloc: Global, backups: &mut BTreeMap<Version, Path>, path: &Path) -> Result<(), Memory>
     ensures { OnOk result (map.from_entries {R = version_cmp} backups.new.entries ≡ with_backup (version_in (joined path.now)) path.now (map.from_entries backups.old.entries)) }
 {
     let text = path.text()?;

@@ -89,7 +89,11 @@ fn toggled_marks(rt: HostRuntime) -> Result<(), Fail> {
         ("a=*", "", "a=*"),
     ];
     for (before, listed, after) in rows {
-        assert_eq!(rt; toggle(rt.alloc(), before, listed)?.as_str(), after, "{before} {listed}");
+        assert_eq!(rt;
+            toggle(rt.alloc(), before, listed)?.as_str(),
+            after,
+            "{before} {listed}"
+        );
     }
     Ok(())
 }
@@ -110,13 +114,20 @@ fn moved_marks(rt: HostRuntime) -> Result<(), Fail> {
         ("a=1", "", "a=1"),
     ];
     for (before, moves, after) in rows {
-        assert_eq!(rt; move_marks(rt.alloc(), before, moves)?.as_str(), after, "{before} {moves}");
+        assert_eq!(rt;
+            move_marks(rt.alloc(), before, moves)?.as_str(),
+            after,
+            "{before} {moves}"
+        );
     }
     Ok(())
 }
 
 fn excess(alloc: Global, listed: &str, kept_old: u32, kept_new: u32) -> Result<String, Fail> {
-    joined(alloc, &excess_backups(alloc, &paths(alloc, listed)?, kept_old, kept_new)?)
+    joined(
+        alloc,
+        &excess_backups(alloc, &paths(alloc, listed)?, kept_old, kept_new)?,
+    )
 }
 
 #[test]
@@ -128,14 +139,28 @@ fn backups_in_excess(rt: HostRuntime) -> Result<(), Fail> {
         ("f.~1~ f.~2~ f.~3~", 3, 0, ""),
         ("f.~1~ f.~2~ f.~3~", 4000000000, 4000000000, ""),
         ("f.~1~ f.~1~ f.~2~", 1, 0, "f.~2~"),
-        ("f f~ f.~ f.~~ f.~0~ f.~01~ f.~1 f.~a~ f~1~ f.~1~", 0, 0, "f.~1~"),
-        ("f.~999999999999999999~ f.~1000000000000000000~", 0, 0, "f.~999999999999999999~"),
+        (
+            "f f~ f.~ f.~~ f.~0~ f.~01~ f.~1 f.~a~ f~1~ f.~1~",
+            0,
+            0,
+            "f.~1~",
+        ),
+        (
+            "f.~999999999999999999~ f.~1000000000000000000~",
+            0,
+            0,
+            "f.~999999999999999999~",
+        ),
         ("d/f.~1~ e/f.~1~ d/f.~2~ f.~3~ d/g.~4~", 1, 0, "d/f.~2~"),
         ("d/.~1~ d.~1~ d/.~2~ .~7~ .~8~", 0, 1, ".~7~ d/.~1~"),
         ("f.~1~.~2~ f.~1~.~3~", 0, 1, "f.~1~.~2~"),
     ];
     for (listed, kept_old, kept_new, expected) in rows {
-        assert_eq!(rt; excess(rt.alloc(), listed, kept_old, kept_new)?.as_str(), expected, "{listed}");
+        assert_eq!(rt;
+            excess(rt.alloc(), listed, kept_old, kept_new)?.as_str(),
+            expected,
+            "{listed}"
+        );
     }
     Ok(())
 }
@@ -170,7 +195,11 @@ fn marks_and_no_marks(rt: HostRuntime) -> Result<(), Fail> {
     ];
     for (byte, is_mark) in rows {
         let mut all = marks(rt.alloc(), "a=1")?;
-        let wanted = if is_mark { Ok(()) } else { Err(MarkFault::BadMark) };
+        let wanted = if is_mark {
+            Ok(())
+        } else {
+            Err(MarkFault::BadMark)
+        };
         assert_eq!(rt; all.set(path(rt.alloc(), "b")?, byte), wanted);
         assert_eq!(rt; all.clear_mark(byte), wanted);
         assert_eq!(rt; all.replace(byte, b'1'), wanted);

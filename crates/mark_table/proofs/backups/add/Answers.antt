@@ -1,4 +1,4 @@
-use Rattle.std.proofs.Common.{◌≡◌, ap, sym, ◌∙◌}
+use Rattle.std.proofs.Common.{◌∙◌}
 use Rattle.dired_text.specs.Paths.{joined}
 use Rattle.mark_table.proofs.RowLemmas.{added}
 use Rattle.mark_table.proofs.backups.add.Goals as goal

@@ -1,4 +1,4 @@
-use Rattle.std.proofs.Common.{◌≡◌, ap, sym, ◌∙◌}
+use Rattle.std.proofs.Common.{◌∙◌}
 use Rattle.mark_table.proofs.RowLemmas.{row_newer, row_newer_past}
 use Rattle.mark_table.proofs.backups.has_newer.Goals as goal
 

@@ -1,4 +1,4 @@
-use Rattle.std.proofs.Common.{◌≡◌, ap, sym, ◌∙◌}
+use Rattle.std.proofs.Common.{◌∙◌}
 use Rattle.mark_table.proofs.RowLemmas.{row_older, row_older_past}
 use Rattle.mark_table.proofs.backups.has_older.Goals as goal
 

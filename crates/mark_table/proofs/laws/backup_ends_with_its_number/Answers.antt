@@ -1,4 +1,4 @@
-use Rattle.std.proofs.Common.{ap, sym, ◌∙◌}
+use Rattle.std.proofs.Common.{ap, ◌∙◌}
 use Rattle.mark_table.specs.Versions.{version_in}
 use Rattle.mark_table.proofs.TextLemmas.{read, written}
 use Rattle.mark_table.proofs.laws.backup_ends_with_its_number.Goals as goal

@@ -1,5 +1,5 @@
 use Rattle.mark_table.proofs.MoveLemmas.{arrived-step}
-use Rattle.std.proofs.Common.{◌≡◌, ap, sym, ◌∙◌}
+use Rattle.std.proofs.Common.{ap, ◌∙◌}
 use Rattle.mark_table.specs.PathMarks.{marked}
 use Rattle.mark_table.proofs.moving.arrived.Goals as goal
 

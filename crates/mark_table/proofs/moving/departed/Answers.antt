@@ -1,7 +1,4 @@
-use Rattle.std.proofs.Common.{◌≡◌, ap, sym, ◌∙◌, drop}
-use Rattle.std.proofs.Math.Seq.{drop-length}
-use Rattle.mark_table.specs.Moves.{Moves}
-use Rattle.mark_table.proofs.MoveLemmas.{emptied, emptied_all, get-emptied}
+use Rattle.mark_table.proofs.MoveLemmas.{emptied_all, get-emptied}
 use Rattle.mark_table.proofs.moving.departed.Goals as goal
 
 pub returns : goal.returns

@@ -1,4 +1,4 @@
-use Rattle.std.proofs.Common.{◌≡◌, sym, ap, ◌∙◌}
+use Rattle.std.proofs.Common.{sym, ap, ◌∙◌}
 use Rattle.mark_table.specs.Versions.{number_in}
 use Rattle.mark_table.proofs.NumberLemmas.{scan_finds, scan_goes_on, to_the_end}
 use Rattle.mark_table.proofs.numbers.version_at.Goals as goal

@@ -1,7 +1,7 @@
-use Rattle.std.proofs.Common.{rules, ◌≡◌, sym, ap, ◌∙◌, ℕ, ◌==◌, not, filter}
+use Rattle.std.proofs.Common.{rules, ap, ◌∙◌, ℕ, ◌==◌, not}
 use Rattle.dired_text.specs.Paths.{Names}
 use Rattle.std.proofs.lemmas.Map.Made.{filter_same_pairs}
-use Rattle.mark_table.specs.PathMarks.{PathMarks, IsMark, cleared}
+use Rattle.mark_table.specs.PathMarks.{cleared}
 use Rattle.mark_table.proofs.MarkLemmas.{cleared-seen, lawful-filter}
 use Rattle.mark_table.proofs.mark_map.MarkMap.clear_mark.Goals as goal
 

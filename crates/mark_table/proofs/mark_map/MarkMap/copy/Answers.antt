@@ -1,10 +1,10 @@
-use Rattle.std.proofs.Common.{rules, ◌≡◌, sym, ap, ◌∙◌, ℕ, List, [], subst}
+use Rattle.std.proofs.Common.{sym, ap, ◌∙◌, subst}
 use Rattle.std.specs.FinMap as fin
 use Rattle.std.proofs.lemmas.Map.Iter.{rest_more, rest_all}
 use Rattle.std.specs.Map.Iter.{deref_pair}
 use Rattle.dired_text.specs.Paths.{Names}
 use Rattle.mark_table.specs.PathMarks.{PathMarks}
-use Rattle.mark_table.proofs.MarkLemmas.{Entries, CopiesTo, copy_begins, copy_goes_on, copy_ends, copied_mark, started}
+use Rattle.mark_table.proofs.MarkLemmas.{Entries, CopiesTo, copy_goes_on, copy_ends, copied_mark, started}
 use Rattle.mark_table.proofs.mark_map.MarkMap.copy.Goals as goal
 
 pub loop-path-init : goal.loop-path-init

@@ -1,7 +1,6 @@
-use Rattle.std.proofs.Common.{rules, ◌≡◌, sym, ap, ◌∙◌, ℕ, List, ◌==◌, count_by, map}
+use Rattle.std.proofs.Common.{rules, ◌≡◌, sym, ap, ◌∙◌, ◌==◌, count_by, map}
 use Rattle.std.specs.FinMap as fin
 use Rattle.std.specs.BTreeMap as tree
-use Rattle.dired_text.specs.Paths.{Names}
 use Rattle.mark_table.specs.PathMarks.{PathMarks}
 use Rattle.mark_table.proofs.MarkLemmas.{Entries, entries-seen}
 use Rattle.mark_table.proofs.mark_map.MarkMap.count.Goals as goal

@@ -1,4 +1,4 @@
-use Rattle.std.proofs.Common.{rules, ◌≡◌, sym, ap, ◌∙◌, Option, ℕ}
+use Rattle.std.proofs.Common.{sym, ap, ◌∙◌}
 use Rattle.std.specs.FinMap as fin
 use Rattle.mark_table.specs.PathMarks.{PathMarks}
 use Rattle.mark_table.proofs.MarkLemmas.{get-seen}

@@ -1,5 +1,4 @@
-use Rattle.std.proofs.Common.{rules, ◌≡◌, sym, ap, ◌∙◌, Some}
-use Rattle.std.specs.FinMap as fin
+use Rattle.std.proofs.Common.{ap, ◌∙◌, Some}
 use Rattle.dired_text.specs.Paths.{path_cmp}
 use Rattle.std.proofs.lemmas.Map.Views.{All-values-insert_entry}
 use Rattle.mark_table.specs.PathMarks.{PathMarks, IsMark, marked}

@@ -1,4 +1,4 @@
-use Rattle.std.proofs.Common.{rules, ◌≡◌, ◌++◌, sym, ap, ◌∙◌, ℕ, List, map}
+use Rattle.std.proofs.Common.{◌≡◌, ◌++◌, sym, ap, ◌∙◌, List, map}
 use Rattle.std.specs.FinMap as fin
 use Rattle.std.specs.BTreeMap as tree
 use Rattle.dired_text.specs.Paths.{Names}

@@ -1,5 +1,4 @@
-use Rattle.std.proofs.Common.{rules, ◌≡◌, sym, ap, ◌∙◌, None, ℕ}
-use Rattle.std.specs.FinMap as fin
+use Rattle.std.proofs.Common.{ap, ◌∙◌, None, ℕ}
 use Rattle.std.proofs.lemmas.Map.Views.{All-map-remove_entry}
 use Rattle.std.specs.BTreeMap.{is_at}
 use Rattle.dired_text.specs.Paths.{Names, path_cmp}

@@ -1,7 +1,6 @@
-use Rattle.std.proofs.Common.{rules, ◌≡◌, sym, ap, ◌∙◌, ℕ, ◌==◌, cond}
-use Rattle.dired_text.specs.Paths.{Names}
+use Rattle.std.proofs.Common.{rules, ap, ◌∙◌, ℕ, ◌==◌, cond}
 use Rattle.std.proofs.lemmas.Map.Made.{map_same_pairs}
-use Rattle.mark_table.specs.PathMarks.{PathMarks, IsMark, replaced}
+use Rattle.mark_table.specs.PathMarks.{replaced}
 use Rattle.mark_table.proofs.MarkLemmas.{replaced-seen, lawful-replaced}
 use Rattle.mark_table.proofs.mark_map.MarkMap.replace.Goals as goal
 
