@@ -5,6 +5,7 @@ use Rattle.std.specs.List.{list_all}
 use Rattle.std.specs.Option.{option_map}
 use Rattle.std.specs.Fmt.{decimal}
 use Rattle.std.specs.Str.Parse.{digits_value}
+use Rattle.dired_text.specs.Paths.{slash}
 
 abbrev pub is_digit : ℕ → Bool
 is_digit b = nat_le 48 b && nat_le b 57
@@ -25,6 +26,10 @@ is_version_text t =
 -- N of a text `.~N~`
 abbrev pub number_in : List ℕ → Option ℕ
 number_in t = if is_version_text t then Some (digits_value 10 (between t)) else None
+
+-- whether these bytes may stand in a name of a path, or be empty
+abbrev pub has_no_slash : List ℕ → Bool
+has_no_slash = list_all (λ b. not (b == slash))
 
 -- `.~N~`, as it is written
 abbrev pub version_text : ℕ → List ℕ

@@ -1,11 +1,12 @@
 // What the calls leave at each path, and which paths are those of backups.
-ghost use Rattle.std.specs.Prelude.{◌≡◌, ◌++◌, ◌∷◌, ◌^◌, ◌<◌, ◌≤◌, ℕ, List, None, Some, true, false, if◌then◌else◌};
+ghost use Rattle.std.specs.Prelude.{◌≡◌, ◌++◌, [], ◌∷◌, ◌^◌, ◌<◌, ◌≤◌, ℕ, List, None, Some, true, false, if◌then◌else◌};
 ghost use Rattle.std.specs.FinMap.{get};
-ghost use Rattle.dired_text.specs.Paths.{Names};
+ghost use Rattle.std.specs.List.{list_all};
+ghost use Rattle.dired_text.specs.Paths.{Names, joined};
 ghost use Rattle.mark_table.specs.PathMarks.{cleared, flipped, is_among, other_than, replaced, toggled, with_new};
 ghost use Rattle.mark_table.specs.Moves.{Moves, destinations, moved_marks, sources};
 ghost use Rattle.mark_table.specs.Tables.{saved, undone};
-ghost use Rattle.mark_table.specs.Versions.{version_in, version_text};
+ghost use Rattle.mark_table.specs.Versions.{has_no_slash, version_in, version_text};
 
 use crate::Marks;
 use dired_text::Path;
@@ -42,4 +43,11 @@ pub fn undo_takes_save_back(marks: &Marks)
 pub fn backup_ends_with_its_number(text: &[u8])
     ensures read { (s : List ℕ) (n : ℕ) → version_in text.now ≡ Some (s, n) → (text.now ≡ s ++ version_text n) × (1 ≤ n) × (n < 10 ^ 18) }
     ensures written { (s : List ℕ) (n : ℕ) → 1 ≤ n → n < 10 ^ 18 → text.now ≡ s ++ version_text n → version_in text.now ≡ Some (s, n) }
+{}
+
+/// The bytes before `.~N~` in the path of a numeric backup are those of BASE in the backup's directory, and they tell
+/// that directory and that BASE, which may be empty.
+pub fn stem_tells_directory_and_base(number: u64)
+    ensures stem { (d : Names) (base : List ℕ) → 1 ≤ number → number < 10 ^ 18 → version_in (joined (d ++ (base ++ version_text number) ∷ [])) ≡ Some (joined (d ++ base ∷ []), number) }
+    ensures apart { (d e : Names) (b c : List ℕ) → list_all has_no_slash (d ++ b ∷ []) ≡ true → list_all has_no_slash (e ++ c ∷ []) ≡ true → joined (d ++ b ∷ []) ≡ joined (e ++ c ∷ []) → (d ≡ e) × (b ≡ c) }
 {}
