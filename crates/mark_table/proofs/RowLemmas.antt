@@ -1,18 +1,25 @@
 -- Versions with the paths of their backups, in order.
-use Rattle.std.proofs.Common.{◌≡◌, ℕ, zero, suc, ◌+◌, ◌-◌, ◌<◌, ◌≤◌, nat_le, nat_lt, List, [], ◌∷◌, length, take, get_or, refl, sym, ◌∙◌, ap, arith, Some}
+use Rattle.std.proofs.Common.{◌≡◌, ℕ, zero, suc, ◌+◌, ◌-◌, ◌<◌, ◌≤◌, ◌==◌, Bool, true, false, cond, ◌&&◌, nat_le, nat_lt, List, [], ◌∷◌, length, take, get_or, refl, sym, ◌∙◌, ap, arith, Option, Some, None}
 use Rattle.std.specs.List.Sorted.{IsStrictlySortedBy}
 use Rattle.std.specs.Map.{keys_of}
+use Rattle.std.specs.Option.{option_or}
+use Rattle.std.specs.Ordering.{eq_by_cmp, is_eq}
+use Rattle.std.specs.Cmp.{tied_itself}
+use Rattle.std.proofs.lemmas.Bool.Decides.{same_from_decides, Decides-eqb}
+use Rattle.std.proofs.lemmas.Slice.Eq.{bytes_eq-Decides}
 use Rattle.std.specs.Str.{bytes_eq}
 use Rattle.std.proofs.Math.ListN.{get_or-map}
 use Rattle.std.proofs.lemmas.Map.Entries.{length-keys_of}
-use Rattle.std.specs.FinMap.{from_entries, insert, entries}
+use Rattle.std.specs.FinMap.{from_entries, insert, entries, get, get-insert, get-empty, empty}
 use Rattle.std.specs.BTreeMap.{BTreeMap, Updates, IsOrdered}
-use Rattle.dired_text.specs.Paths.{Names}
+use Rattle.dired_text.specs.Paths.{Names, joined}
 use Rattle.mark_table.specs.Versions.{version_in}
+use Rattle.mark_table.proofs.NumberLemmas.{and_both}
+use Rattle.mark_table.proofs.TextLemmas.{and_make}
 use Rattle.mark_table.proofs.MapLemmas.{inserted, entries-made}
 use Rattle.mark_table.specs.declared.version.Version.{Version}
-use Rattle.mark_table.specs.Excess.{version_cmp, older, newer, Versions, with_backup}
-use Rattle.mark_table.proofs.VersionLemmas.{older_at, older_past, newer_at, newer_past, leb_fails, lt_fails, version_cmp-total, version_cmp-exact}
+use Rattle.mark_table.specs.Excess.{version_cmp, older, newer, Versions, with_backup, with_backups, backups, is_of, path_of}
+use Rattle.mark_table.proofs.VersionLemmas.{older_at, older_past, newer_at, newer_past, leb_fails, lt_fails, version_cmp-total, version_cmp-exact, tie_is, same_version}
 
 abbrev pub Row : Type 0
 Row = Version × Names
@@ -74,3 +81,41 @@ added a b text bytes stem len n p copy same reads cut copies u =
 
 pub in_order : (a : BTreeMap Version Names) (vs : Versions) → IsOrdered version_cmp a → from_entries {R = version_cmp} a.entries ≡ vs → a.entries ≡ entries vs
 in_order a vs ordered is = sym (entries-made version_cmp-total version_cmp-exact a.entries ordered) ∙ ap entries is
+
+-- ---- the path of a version
+
+or_assoc : (a b c : Option Names) → option_or (option_or a b) c ≡ option_or a (option_or b c)
+or_assoc None b c = refl
+or_assoc (Some p) b c = refl
+
+or_none : (o : Option Names) → option_or o None ≡ o
+or_none None = refl
+or_none (Some p) = refl
+
+tied_is : (v w : Version) → eq_by_cmp version_cmp v w ≡ (bytes_eq v.stem w.stem && v.number == w.number)
+tied_is v w = same_from_decides (eq_by_cmp version_cmp v w) (bytes_eq v.stem w.stem && v.number == w.number)
+    (λ t. tie_is v w t, λ e. ap (λ (u : Version). is_eq (version_cmp v u)) (sym e) ∙ ap is_eq (tied_itself version_cmp-total v)) (
+      λ t. let parts = and_both (bytes_eq v.stem w.stem) (v.number == w.number) t in same_version v w ((bytes_eq-Decides v.stem w.stem).0 parts.0) ((Decides-eqb v.number w.number).0 parts.1),
+      λ e. and_make (bytes_eq v.stem w.stem) (v.number == w.number) ((bytes_eq-Decides v.stem w.stem).1 (ap (λ (u : Version). u.stem) e)) ((Decides-eqb v.number w.number).1 (ap (λ (u : Version). u.number) e)),
+    )
+
+one_or : (t : Bool) (p : Names) (o : Option Names) → cond t (Some p) o ≡ option_or (cond t (Some p) None) o
+one_or true p o = refl
+one_or false p o = refl
+
+get-with_backup : (o : Option (List ℕ × ℕ)) (p : Names) (vs : Versions) (v : Version) → get (with_backup o p vs) v ≡ option_or (cond (is_of v o) (Some p) None) (get vs v)
+get-with_backup None p vs v = refl
+get-with_backup (Some w) p vs v =
+    get-insert version_cmp-total vs (record { stem = w.0; number = w.1 }) p v
+    ∙ ap (λ (t : Bool). cond t (Some p) (get vs v)) (tied_is v (record { stem = w.0; number = w.1 }))
+    ∙ one_or (is_of v (Some w)) p (get vs v)
+
+get-with_backups : (ps : List Names) (vs : Versions) (v : Version) → get (with_backups ps vs) v ≡ option_or (path_of ps v) (get vs v)
+get-with_backups [] vs v = refl
+get-with_backups (p ∷ ps) vs v =
+    get-with_backups ps (with_backup (version_in (joined p)) p vs) v
+    ∙ ap (option_or (path_of ps v)) (get-with_backup (version_in (joined p)) p vs v)
+    ∙ sym (or_assoc (path_of ps v) (cond (is_of v (version_in (joined p))) (Some p) None) (get vs v))
+
+pub get-backups : (ps : List Names) (v : Version) → get (backups ps) v ≡ path_of ps v
+get-backups ps v = get-with_backups ps empty v ∙ ap (option_or (path_of ps v)) (get-empty version_cmp v) ∙ or_none (path_of ps v)

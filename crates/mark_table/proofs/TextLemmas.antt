@@ -16,7 +16,7 @@ use Rattle.std.proofs.Math.Nat.{pow-le-pow_right}
 use Rattle.mark_table.specs.Versions.{is_digit, is_number, between, is_version_text, number_in, found, version_in, version_text}
 use Rattle.mark_table.proofs.NumberLemmas.{and_both, all_digits, digit_at}
 
-and_make : (a b : Bool) → a ≡ true → b ≡ true → (a && b) ≡ true
+pub and_make : (a b : Bool) → a ≡ true → b ≡ true → (a && b) ≡ true
 and_make a b p q = cc
 
 not_true : (b : Bool) → (b ≡ true → ⊥) → b ≡ false

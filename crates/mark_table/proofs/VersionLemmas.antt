@@ -5,7 +5,7 @@ use Rattle.std.specs.List.{AllByRecursion}
 use Rattle.std.specs.List.Sorted.{IsStrictlySortedBy}
 use Rattle.std.specs.declared.cmp.Ordering.{Ordering}
 use Rattle.std.specs.declared.cmp.Ordering.TheVariants.{Less, Equal, Greater}
-use Rattle.std.specs.Ordering.{nat_cmp, ordering_then, ordering_reverse}
+use Rattle.std.specs.Ordering.{is_eq, nat_cmp, ordering_then, ordering_reverse}
 use Rattle.std.specs.Cmp.{IsTotalOrder, then_total, on_total, nat_cmp_total, tied_itself}
 use Rattle.std.specs.Cmp.Lexicographic.{slice_cmp, nat_list_cmp_total}
 use Rattle.std.specs.Str.{bytes_eq}
@@ -27,7 +27,7 @@ Stems = slice_cmp nat_cmp
 stems_exact : (a b : List ℕ) → Stems a b ≡ Equal → a ≡ b
 stems_exact = slice_cmp-IsAntisymmetric nat_cmp-IsAntisymmetric
 
-same_version : (u v : Version) → u.stem ≡ v.stem → u.number ≡ v.number → u ≡ v
+pub same_version : (u v : Version) → u.stem ≡ v.stem → u.number ≡ v.number → u ≡ v
 same_version u v s n = λ i. record { stem = s i; number = n i }
 
 pub version_cmp-exact : IsAntisymmetric version_cmp
@@ -37,6 +37,13 @@ version_cmp-exact u v e =
       | Equal ↦ λ s t. same_version u v (stems_exact u.stem v.stem s) (nat_cmp-IsAntisymmetric u.number v.number t)
       | Greater ↦ λ s t. cc
     ] refl e
+
+pub tie_is : (u v : Version) → is_eq (version_cmp u v) ≡ true → u ≡ v
+tie_is u v t = elim (version_cmp u v) as (λ o. version_cmp u v ≡ o → is_eq o ≡ true → u ≡ v) [
+  | Less ↦ λ e s. cc
+  | Equal ↦ λ e s. version_cmp-exact u v e
+  | Greater ↦ λ e s. cc
+] refl t
 
 -- of versions that rise, where the outer ones are of one file, the inner one is too
 pub between : (a b c : Version) → version_cmp a b ≡ Less → version_cmp b c ≡ Less → a.stem ≡ c.stem → b.stem ≡ c.stem

@@ -1,7 +1,8 @@
 -- The numeric backups to remove when some of the oldest and some of the newest are kept (GNU Emacs Manual, "Deletion of
 -- Backups").
-use Rattle.std.specs.Prelude.{ℕ, Bool, ◌&&◌, nat_le, nat_lt, List, [], ◌∷◌, length, map, filter, Option, Some, None}
+use Rattle.std.specs.Prelude.{ℕ, Bool, false, ◌&&◌, ◌==◌, if◌then◌else◌, nat_le, nat_lt, List, [], ◌∷◌, length, map, filter, Option, Some, None}
 use Rattle.std.specs.FinMap.{FinMap, empty, insert, entries, keys}
+use Rattle.std.specs.Option.{option_or}
 use Rattle.std.specs.Ordering.{nat_cmp, ordering_then}
 use Rattle.std.specs.declared.cmp.Ordering.{Ordering}
 use Rattle.std.specs.Cmp.Lexicographic.{slice_cmp}
@@ -47,3 +48,13 @@ abbrev pub excess : ℕ → ℕ → List Names → List Names
 excess kept_old kept_new shown =
     let vs = backups shown in
     map (λ e. e.1) (filter (λ e. is_excess kept_old kept_new (keys vs) e.0) (entries vs))
+
+-- whether a text, as it is read, is of this version
+abbrev pub is_of : Version → Option (List ℕ × ℕ) → Bool
+is_of v None = false
+is_of v (Some w) = bytes_eq v.stem w.0 && v.number == w.1
+
+-- the last of these paths that is of this version
+abbrev pub path_of : List Names → Version → Option Names
+path_of [] v = None
+path_of (p ∷ ps) v = option_or (path_of ps v) (if is_of v (version_in (joined p)) then Some p else None)

@@ -3,6 +3,8 @@ ghost use Rattle.std.specs.Prelude.{◌≡◌, ◌++◌, [], ◌∷◌, ◌^◌,
 ghost use Rattle.std.specs.FinMap.{get};
 ghost use Rattle.std.specs.List.{list_all};
 ghost use Rattle.dired_text.specs.Paths.{Names, joined};
+ghost use Rattle.mark_table.specs.declared.version.Version.{Version as version};
+ghost use Rattle.mark_table.specs.Excess.{backups, path_of};
 ghost use Rattle.mark_table.specs.PathMarks.{cleared, flipped, is_among, other_than, replaced, toggled, with_new};
 ghost use Rattle.mark_table.specs.Moves.{Moves, destinations, moved_marks, sources};
 ghost use Rattle.mark_table.specs.Tables.{saved, undone};
@@ -50,4 +52,9 @@ pub fn backup_ends_with_its_number(text: &[u8])
 pub fn stem_tells_directory_and_base(number: u64)
     ensures stem { (d : Names) (base : List ℕ) → 1 ≤ number → number < 10 ^ 18 → version_in (joined (d ++ (base ++ version_text number) ∷ [])) ≡ Some (joined (d ++ base ∷ []), number) }
     ensures apart { (d e : Names) (b c : List ℕ) → list_all has_no_slash (d ++ b ∷ []) ≡ true → list_all has_no_slash (e ++ c ∷ []) ≡ true → joined (d ++ b ∷ []) ≡ joined (e ++ c ∷ []) → (d ≡ e) × (b ≡ c) }
+{}
+
+/// Among the backups of shown paths stands, for each version, the last shown path of that version, and no other.
+pub fn backups_are_the_shown_ones(shown: &[Path])
+    ensures { (v : version) → get (backups shown.now) v ≡ path_of shown.now v }
 {}

@@ -13,7 +13,7 @@ mod version;
 
 pub use backups::excess_backups;
 pub use laws::{
-    backup_ends_with_its_number, changed_at_each_path, moved_at_each_path,
-    stem_tells_directory_and_base, toggled_at_each_path, undo_takes_save_back,
+    backup_ends_with_its_number, backups_are_the_shown_ones, changed_at_each_path,
+    moved_at_each_path, stem_tells_directory_and_base, toggled_at_each_path, undo_takes_save_back,
 };
 pub use table::{MarkFault, Marks, is_mark};
