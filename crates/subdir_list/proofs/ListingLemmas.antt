@@ -1,10 +1,16 @@
 -- Directories and sections one by one.
-use Rattle.std.proofs.Common.{◌≡◌, ◌×◌, ℕ, ◌+◌, ◌<◌, Bool, true, List, [], ◌∷◌, ◌++◌, length, take, drop, map, flat_map, get_or, Option, Some, None, refl, sym, ◌∙◌, ap, append_assoc}
+use Rattle.std.proofs.Common.{◌≡◌, ℕ, ◌+◌, ◌<◌, Bool, true, List, [], ◌∷◌, ◌++◌, length, take, drop, map, flat_map, get_or, Option, Some, None, refl, sym, ◌∙◌, ap, append_assoc, false, append-nil, codes}
 use Rattle.std.specs.BTreeSet.{insert_key}
 use Rattle.std.specs.FinMap.{get}
+use Rattle.std.specs.List.{list_any}
+use Rattle.std.specs.Str.{bytes_eq}
+use Rattle.std.proofs.lemmas.List.Folds.{list_any_at}
+use Rattle.std.proofs.lemmas.Slice.Eq.{bytes_eq-Decides}
 use Rattle.std.proofs.lemmas.List.{drop_more}
 use Rattle.dired_text.specs.Paths.{Names, path_cmp}
-use Rattle.tree_core.specs.FileTree.{FileTree, is_dir_node}
+use Rattle.tree_core.specs.FileTree.{FileTree, Stands, is_dir_node}
+use Rattle.tree_core.specs.Fields.{names_in}
+use Rattle.tree_core.proofs.NameLemmas.{names_stand}
 use Rattle.tree_core.specs.declared.meta.Meta.{Meta}
 use Rattle.listing_text.specs.declared.switches.Switches.{Switches}
 use Rattle.subdir_list.specs.Listings.{paths_with, first_other, AreSections, IsSection, listing_of}
@@ -14,13 +20,13 @@ pub paths_more : (keys dirs : List Names) (i : ℕ) (d : Names) → i < length d
 paths_more keys dirs i d below is = ap (paths_with keys) (drop_more dirs i d below ∙ ap (λ (x : Names). x ∷ drop (i + 1) dirs) (sym is))
 
 -- one directory more
-pub first_more : (t : FileTree) (dirs : List Names) (i : ℕ) (d : Names) → i < length dirs → d ≡ get_or dirs i d → is_dir_node (get t d) ≡ true → first_other t i (drop i dirs) ≡ first_other t (i + 1) (drop (i + 1) dirs)
+pub first_more : (t : FileTree) (dirs : List Names) (i : ℕ) (d : Names) → i < length dirs → d ≡ get_or dirs i d → is_dir_node (get t d) ≡ true → first_other t (drop i dirs) ≡ first_other t (drop (i + 1) dirs)
 first_more t dirs i d below is dir =
     let next : drop i dirs ≡ d ∷ drop (i + 1) dirs = drop_more dirs i d below ∙ ap (λ (x : Names). x ∷ drop (i + 1) dirs) (sym is) in
     rw (next, dir) refl
 
 -- the first of them that is no directory
-pub first_found : (t : FileTree) (dirs : List Names) (i : ℕ) (d : Names) → i < length dirs → d ≡ get_or dirs i d → is_dir_node (get t d) ≡ false → first_other t i (drop i dirs) ≡ Some i
+pub first_found : (t : FileTree) (dirs : List Names) (i : ℕ) (d : Names) → i < length dirs → d ≡ get_or dirs i d → is_dir_node (get t d) ≡ false → first_other t (drop i dirs) ≡ Some d
 first_found t dirs i d below is other =
     let next : drop i dirs ≡ d ∷ drop (i + 1) dirs = drop_more dirs i d below ∙ ap (λ (x : Names). x ∷ drop (i + 1) dirs) (sym is) in
     rw (next, other) refl
@@ -39,3 +45,10 @@ flat_more (s ∷ sections) section = ap (λ (later : List ℕ). (10 ∷ s) ++ la
 -- its text stands behind a newline
 pub listing_more : (sections : List (List ℕ)) (section : List ℕ) → listing_of (sections ++ section ∷ []) ≡ (listing_of sections ++ 10 ∷ []) ++ section
 listing_more sections section = ap (λ (later : List ℕ). codes "dired 1" ++ later) (flat_more sections section) ∙ sym (append_assoc (codes "dired 1") (flat_map (λ (s : List ℕ). 10 ∷ s) sections) (10 ∷ section)) ∙ sym (append_assoc (listing_of sections) (10 ∷ []) section)
+
+-- something stands under each name of a directory
+pub named_at : (t : FileTree) (p : Names) (names : List (List ℕ)) (k : ℕ) (d : List ℕ) → names ≡ names_in t p → k < length names → Stands t (p ++ get_or names k d ∷ [])
+named_at t p names k d is below =
+    let n = get_or names k d in
+    let found : list_any (bytes_eq n) names ≡ true = list_any_at (bytes_eq n) names k d below ((bytes_eq-Decides n n).1 refl) in
+    sym (names_stand t p n) ∙ ap (list_any (bytes_eq n)) (sym is) ∙ found

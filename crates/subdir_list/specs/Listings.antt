@@ -85,21 +85,21 @@ AreSections switches t fields (p ∷ paths) [] = ⊥
 abbrev pub IsListing : Switches → FileTree → (Names → Meta) → List Names → List ℕ → Type 0
 IsListing switches t fields dirs text = (sections : List (List ℕ)) × AreSections switches t fields (listed_paths dirs) sections × (text ≡ listing_of sections)
 
--- of directories that are numbered from here on, the first at which no directory stands
-abbrev pub first_other : FileTree → ℕ → List Names → Option ℕ
-first_other t index [] = None
-first_other t index (dir ∷ dirs) = if is_dir_node (get t dir) then first_other t (index + 1) dirs else Some index
+-- the first of these directories at which no directory stands
+abbrev pub first_other : FileTree → List Names → Option Names
+first_other t [] = None
+first_other t (dir ∷ dirs) = if is_dir_node (get t dir) then first_other t dirs else Some dir
 
 -- the end is the refusal of this directory
-abbrev pub Refuses : ListEnd → Option ℕ → Type 0
-Refuses (NotDirectory index) first = first ≡ Some index
+abbrev pub Refuses : ListEnd → Option Names → Type 0
+Refuses (NotDirectory dir) first = first ≡ Some dir
 Refuses (TreeFault call) first = Unit {0}
 Refuses Memory first = Unit {0}
 
 -- a listing that isn't made because of a failed call names it; every other end leaves the count
 abbrev pub EndByFault : ListEnd → Faults → Faults → Type 0
 EndByFault (TreeFault first) old new = new ≡ with_fault first old
-EndByFault (NotDirectory index) old new = new ≡ old
+EndByFault (NotDirectory dir) old new = new ≡ old
 EndByFault Memory old new = new ≡ old
 
 abbrev pub ListsByFault : {A : Type 0} → Result A ListEnd → Faults → Faults → Type 0
@@ -108,7 +108,7 @@ ListsByFault result old new = MatchResult result (λ _. new ≡ old) (λ end. En
 -- the tree that the failed call found
 abbrev pub EndFound : ListEnd → FileTree → FileTree → FileTree → Type 0
 EndFound (TreeFault first) t old new = new ≡ t
-EndFound (NotDirectory index) t old new = new ≡ old
+EndFound (NotDirectory dir) t old new = new ≡ old
 EndFound Memory t old new = new ≡ old
 
 abbrev pub ListFound : {A : Type 0} → Result A ListEnd → FileTree → FileTree → FileTree → Type 0

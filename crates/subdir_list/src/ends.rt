@@ -2,15 +2,15 @@
 ghost use Rattle.std.specs.Prelude.{◌≡◌};
 ghost use Rattle.subdir_list.specs.declared.ends.ListEnd.TheVariants as end;
 
-use dired_text::Memory;
+use dired_text::{Memory, Path};
 use std::alloc::{AllocError, AllocFailed};
 use tree_core::CallName;
 
 /// Why a listing isn't made.
-#[derive(Clone, Copy, Debug, PartialEq, Eq)]
+#[derive(Debug, PartialEq, Eq, Drop)]
 pub enum ListEnd {
-    /// The first of the directories at which no directory stands: its index, from 0.
-    NotDirectory(u64),
+    /// The first of the directories that were asked for at which no directory stands.
+    NotDirectory(Path),
     /// A call of the tree failed, and this is its name.
     TreeFault(CallName),
     /// An allocation was refused.

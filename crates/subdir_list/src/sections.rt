@@ -18,7 +18,7 @@ use tree_core::{CallName, Kind, Tree};
 /// they are given.
 ///
 /// # Errors
-/// `NotDirectory` with the index of the first at which no directory stands; `TreeFault` names the call that failed.
+/// `NotDirectory` with the first at which no directory stands; `TreeFault` names the call that failed.
 pub fn list_dirs<T: Tree>(
     alloc: Global,
     tree: &mut T,
@@ -26,8 +26,8 @@ pub fn list_dirs<T: Tree>(
     switches: &Switches,
 ) -> Result<Bytes, ListEnd>
     ensures listing { T.Tells → IfOk result (λ text. IsListing switches.now (current_tree (T.history tree.old)) (T.fields tree.old) dirs.now text) }
-    ensures all { T.Tells → OnOk result (first_other (current_tree (T.history tree.old)) 0 dirs.now ≡ None) }
-    ensures refused { T.Tells → IfErr result (λ end. Refuses end (first_other (current_tree (T.history tree.old)) 0 dirs.now)) }
+    ensures all { T.Tells → OnOk result (first_other (current_tree (T.history tree.old)) dirs.now ≡ None) }
+    ensures refused { T.Tells → IfErr result (λ end. Refuses end (first_other (current_tree (T.history tree.old)) dirs.now)) }
     ensures history { T.Tells → T.history tree.new ≡ T.history tree.old }
     ensures fields { T.Tells → T.fields tree.new ≡ T.fields tree.old }
     ensures found { T.Tells → ListFound result (current_tree (T.history tree.old)) (T.before_failed tree.old) (T.before_failed tree.new) }
@@ -48,8 +48,8 @@ pub fn list_dirs<T: Tree>(
 fn paths_of<T: Tree>(alloc: Global, tree: &mut T, dirs: &[Path]) -> Result<Vec<Path>, ListEnd>
     ensures paths { IfOk result (λ paths. paths.items ≡ listed_paths dirs.now) }
     ensures dirs { T.Tells → IfOk result (λ paths. All (λ p. IsDir (current_tree (T.history tree.old)) p) paths.items) }
-    ensures all { T.Tells → OnOk result (first_other (current_tree (T.history tree.old)) 0 dirs.now ≡ None) }
-    ensures refused { T.Tells → IfErr result (λ end. Refuses end (first_other (current_tree (T.history tree.old)) 0 dirs.now)) }
+    ensures all { T.Tells → OnOk result (first_other (current_tree (T.history tree.old)) dirs.now ≡ None) }
+    ensures refused { T.Tells → IfErr result (λ end. Refuses end (first_other (current_tree (T.history tree.old)) dirs.now)) }
     ensures history { T.Tells → T.history tree.new ≡ T.history tree.old }
     ensures fields { T.Tells → T.fields tree.new ≡ T.fields tree.old }
     ensures found { T.Tells → ListFound result (current_tree (T.history tree.old)) (T.before_failed tree.old) (T.before_failed tree.new) }
@@ -57,11 +57,12 @@ fn paths_of<T: Tree>(alloc: Global, tree: &mut T, dirs: &[Path]) -> Result<Vec<P
 {
     let mut paths = BTreeSet::new(alloc);
     paths.insert(Path::root(alloc))?;
-    for index in 0..dirs.len() {
-        if !is_dir(tree, &dirs[index])? {
-            return Err(ListEnd::NotDirectory(index as u64));
+    for dir in dirs {
+        let path = dir.copy()?;
+        if !is_dir(tree, dir)? {
+            return Err(ListEnd::NotDirectory(path));
         }
-        paths.insert(dirs[index].copy()?)?;
+        paths.insert(path)?;
     }
     Ok(all_of(alloc, paths)?)
 }
