@@ -5,3 +5,5 @@ pub mod Moments
 pub mod MemLemmas
 pub mod BuiltLemmas
 pub mod ImageLemmas
+pub mod NameLemmas
+pub mod FieldLemmas

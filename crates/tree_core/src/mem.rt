@@ -4,9 +4,10 @@ ghost use Rattle.std.specs.Option.{unwrap_or};
 ghost use Rattle.std.specs.FinMap.{get};
 ghost use Rattle.dired_text.specs.Paths.{Names};
 ghost use Rattle.dired_text.specs.Counts.{raised, Rose};
-ghost use Rattle.tree_core.specs.FileTree.{CanDo, next_after, root_tree};
+ghost use Rattle.tree_core.specs.FileTree.{CanDo, Stands, moved, next_after, root_tree};
 ghost use Rattle.tree_core.specs.History.{History, Began, Then, IsSound, Performs, FailedAt, current_tree, next_number as number_told, is_sync as is_sync_call, crash_images, IsCrashState};
 ghost use Rattle.tree_core.specs.Faults.{HasCause, with_fault};
+ghost use Rattle.tree_core.specs.MemFields.{listed_rows, listed_entries, fields_in, ListedAfter};
 ghost use Rattle.tree_core.specs.Mem.{tree_of, history_of, CouldDo, scheduled, NeedsMore, images_at};
 ghost use Rattle.tree_core.specs.Built.{built, next_of, first_bad, Refuses};
 ghost use Rattle.tree_core.specs.Allowed.{IsSound-prop, CouldDo-prop};
@@ -116,6 +117,7 @@ impl MemTree {
         ensures good { IfOk result (λ m. first_bad [] entries.now ≡ None) }
         ensures bad { IfErr result (λ fault. Refuses entries.now fault) }
         ensures told { IfOk result (λ m. told m ≡ untouched (Began (built root_tree entries.now) (next_of entries.now))) }
+        ensures fields { IfOk result (λ m. fields_told m ≡ fields_in (listed_entries entries.now)) }
     {
         let (rows, first_number) = rows_of(alloc, entries)?;
         Ok(MemTree::began(alloc, rows, first_number)?)
@@ -124,7 +126,8 @@ impl MemTree {
     // The tree of these rows, with nothing pending.
     fn began(alloc: Global, rows: Vec<Row>, first_number: u64) -> Result<Self, Memory>
         requires { IsSound (Began (tree_of rows.items) first_number) }
-        ensures { IfOk result (λ m. told m ≡ untouched (Began (tree_of rows.items) first_number)) }
+        ensures told { IfOk result (λ m. told m ≡ untouched (Began (tree_of rows.items) first_number)) }
+        ensures fields { IfOk result (λ m. fields_told m ≡ fields_in (listed_rows rows.items)) }
     {
         let began = copy_rows(alloc, &rows)?;
         Ok(MemTree {
@@ -287,6 +290,7 @@ impl MemTree {
         ensures cause { HasCause call self.old.faults self.new.faults result }
         ensures scheduled { fate.is_ok ≡ false → IsTrue (is_err result) }
         ensures done { (Rose self.old.short self.new.short ⊎ NeedsMore change (number_told (history_told self.old))) ⊎ (history_told self.new ≡ (if fate.is_done then Then (history_told self.old) change else history_told self.old)) }
+        ensures listed { OnOk result (ListedAfter change (listed_rows self.old.rows.items) (listed_rows self.new.rows.items)) }
         ensures schedule { SameSchedule self.old self.new }
         ensures may_fail { OnErr result ((fate.is_ok ≡ false) ⊎ (Rose self.old.short self.new.short ⊎ NeedsMore change (number_told (history_told self.old)))) }
     {
@@ -375,7 +379,15 @@ impl Tree for MemTree {
         Ok(names_in(alloc, &self.rows, path)?)
     }
 
-    fn rename(&mut self, from: &Path, to: &Path) -> Result<(), Failed> {
+    fn rename(&mut self, from: &Path, to: &Path) -> Result<(), Failed>
+        requires { CanDo (Change.Rename from.now to.now) (current_tree (history_told self.old)) }
+        ensures history { Performs (Change.Rename from.now to.now) (history_told self.old) (history_told self.new) result }
+        ensures before_failed { FailedAt result (history_told self.old) (before_failed_told self.old) (before_failed_told self.new) }
+        ensures cause { HasCause CallName.Rename self.old.faults self.new.faults result }
+        ensures may_fail { OnErr result (MayFailAs CallName.Rename self.old self.new) }
+        // what stood takes its fields along
+        ensures carried { OnOk result ((p : Names) → Stands (current_tree (history_told self.old)) p → fields_told self.new (moved from.now to.now p) ≡ fields_told self.old p) }
+    {
         let fate = self.next_fate();
         match (from.copy(), to.copy()) {
             (Ok(from), Ok(to)) => self.change(Change::Rename(from, to), CallName::Rename, fate),

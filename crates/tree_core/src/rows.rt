@@ -87,7 +87,8 @@ pub fn node_of<'a>(rows: &'a [Row], names: &[Name]) -> Option<&'a Node>
 
 /// Copies the rows.
 pub fn copy_rows(alloc: Global, rows: &[Row]) -> Result<Vec<Row>, Memory>
-    ensures { IfOk result (λ v. pairs v.items ≡ pairs rows.now) }
+    ensures pairs { IfOk result (λ v. pairs v.items ≡ pairs rows.now) }
+    ensures listed { IfOk result (λ v. listed_rows v.items ≡ listed_rows rows.now) }
 {
     let mut all = Vec::with_capacity(alloc, rows.len())?;
     for row in rows {
@@ -102,14 +103,16 @@ pub fn copy_rows(alloc: Global, rows: &[Row]) -> Result<Vec<Row>, Memory>
 
 /// Copies the rows, with `from` and all below it moved.
 pub fn moved_rows(alloc: Global, rows: &[Row], from: &Path, to: &Path) -> Result<Vec<Row>, Memory>
-    ensures { IfOk result (λ v. pairs v.items ≡ map (moved_entry from.now to.now) (pairs rows.now)) }
+    ensures pairs { IfOk result (λ v. pairs v.items ≡ map (moved_entry from.now to.now) (pairs rows.now)) }
+    ensures listed { IfOk result (λ v. listed_rows v.items ≡ map (moved_listed from.now to.now) (listed_rows rows.now)) }
 {
     let mut all = Vec::with_capacity(alloc, rows.len())?;
     for row in rows {
+        let mtime = row.mtime;
         all.push(Row {
             names: moved_names(alloc, from, to, &row.names)?,
             node: row.node.copy()?,
-            mtime: row.mtime,
+            mtime,
         })?;
     }
     Ok(all)
@@ -124,6 +127,7 @@ pub fn push_row(
     mtime: i64,
 ) -> Result<(), Memory>
     ensures ok { OnOk result (pairs rows.new.items ≡ pairs rows.old.items ++ (path.now, node) ∷ []) }
+    ensures listed { OnOk result (listed_rows rows.new.items ≡ listed_rows rows.old.items ++ (path.now, (node, mtime)) ∷ []) }
     ensures err { OnErr result (rows.new.items ≡ rows.old.items) }
 {
     rows.push(Row {

@@ -14,5 +14,5 @@ began-requires-2 c =
 pub returns : goal.returns
 returns c =
     pushed_images _ _ _ _ _ _ _ c.in_ok-push.ensures.items c.in_ok-push-2.ensures.items
-    (c.in_ok-began.ensures ∙ ap (λ l. untouched (Began (from_entries l) c.args.replay.now.next_number)) (c.in_ok-whole.ensures ∙ ap pairs c.deref.ensures.value))
-    (c.in_ok-began-2.ensures ∙ ap (λ t. untouched (Began t c.args.replay.now.next_number)) (torn_rows c.args.replay.now.rows.items _ _ c.args.replay.now.written.items _ c.deref-2.ensures.value c.deref-3.ensures.value c.in_ok-empty.ensures))
+    (c.in_ok-began.ensures.told ∙ ap (λ l. untouched (Began (from_entries l) c.args.replay.now.next_number)) (c.in_ok-whole.ensures.pairs ∙ ap pairs c.deref.ensures.value))
+    (c.in_ok-began-2.ensures.told ∙ ap (λ t. untouched (Began t c.args.replay.now.next_number)) (torn_rows c.args.replay.now.rows.items _ _ c.args.replay.now.written.items _ c.deref-2.ensures.value c.deref-3.ensures.value c.in_ok-empty.ensures))
