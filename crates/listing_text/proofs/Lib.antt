@@ -1,1 +1,11 @@
+pub mod ColumnLemmas
+pub mod DateLemmas
+pub mod FieldLemmas
+pub mod GrammarBack
+pub mod GrammarLemmas
+pub mod MomentLemmas
+pub mod NameLemmas
+pub mod NumberLemmas
+pub mod OrderLemmas
 pub mod PlainLemmas
+pub mod RunLemmas

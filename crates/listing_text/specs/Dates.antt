@@ -3,6 +3,8 @@
 use Rattle.std.specs.Prelude.{ℕ, zero, suc, ◌+◌, ◌-◌, ◌*◌, ◌/◌, ◌%◌, ◌==◌, Bool, ◌&&◌, nat_le, List, [], ◌∷◌, ◌++◌, Option, Some, None, option_and_then, if◌then◌else◌, ℤ, pos, neg_ℤ, ◌+ℤ◌, ◌-ℤ◌, ◌*ℤ◌, int_le, unsigned_abs}
 use Rattle.std.specs.Int.{int_max, int_min, int_div_euclid, int_rem_euclid}
 use Rattle.jiff_core.specs.Calendar.{days_from_civil, days_in_month}
+use Rattle.jiff_core.specs.Date.{epoch_day}
+use Rattle.jiff_core.specs.declared.civil.datetime.DateTime.{DateTime}
 use Rattle.listing_text.specs.Numbers.{is_digit}
 
 -- 0001-01-01 00:00 and 9998-12-31 23:59
@@ -63,6 +65,10 @@ is_moment year month day hour minute =
 -- the minute of a date and a time of day
 abbrev pub minute_at : ℕ → ℕ → ℕ → ℕ → ℕ → ℤ
 minute_at year month day hour minute = days_from_civil (pos year) month day *ℤ pos 1440 +ℤ pos (hour * 60 + minute)
+
+-- the minute that a datetime of jiff's shows
+abbrev pub civil_minute : DateTime → ℤ
+civil_minute civil = epoch_day civil.date *ℤ pos 1440 +ℤ pos (civil.time.hour * 60 + civil.time.minute)
 
 unfoldable pub moment_of : ℕ → ℕ → ℕ → ℕ → ℕ → Option ℤ
 moment_of year month day hour minute = if is_moment year month day hour minute then Some (minute_at year month day hour minute) else None

@@ -56,7 +56,7 @@ is_word word = nat_le 1 (length word) && nat_le (length word) 64 && list_all is_
 
 -- a word reaches to the next space
 abbrev pub word_len : List ℕ → ℕ
-word_len text = run_len (λ b. not (is_space b)) text
+word_len text = position_or_len is_space text
 
 unfoldable pub word_in : List ℕ → Taken (List ℕ)
 word_in text = if is_word (take (word_len text) text) then Some (take (word_len text) text, drop (word_len text) text) else None

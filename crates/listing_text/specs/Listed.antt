@@ -48,11 +48,14 @@ columns_text line widths =
 unfoldable pub names_text : Line → List ℕ
 names_text line = escaped (is_link line.kind) line.name ++ target_text line.kind line.target
 
--- a file's line without its newline. Of the mode the twelve bits are shown that it may have
+-- the mark, the kind and the mode. Of the mode the twelve bits are shown that it may have
+unfoldable pub start_text : ℕ → Line → List ℕ
+start_text mark line = mark ∷ 32 ∷ kind_letter line.kind ∷ mode_letters (line.mode % 0o10000)
+
+-- a file's line without its newline
 unfoldable pub line_text_of : ℕ → Line → Widths → List ℕ
 line_text_of mark line widths =
-    mark ∷ 32 ∷ kind_letter line.kind ∷ mode_letters (line.mode % 0o10000) ++ columns_text line widths
-    ++ 32 ∷ minute_text line.minute ++ 32 ∷ names_text line
+    start_text mark line ++ columns_text line widths ++ 32 ∷ minute_text line.minute ++ 32 ∷ names_text line
 
 -- the width of the widest, at most 255
 abbrev pub width_of : (Line → List ℕ) → List (ℕ × Line) → ℕ

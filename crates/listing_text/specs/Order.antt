@@ -33,14 +33,15 @@ newest_first = flip_args (on (λ (line : Line). line.minute) int_cmp)
 -- field by field, in the order in which a line has them, but for the name
 abbrev pub by_other_fields : LineOrder
 by_other_fields =
-    then_cmp (on (λ (line : Line). kind_place line.kind) nat_cmp)
-    (then_cmp (on (λ (line : Line). line.mode) nat_cmp)
-    (then_cmp (on (λ (line : Line). line.links) nat_cmp)
-    (then_cmp (on (λ (line : Line). line.owner) text_cmp)
-    (then_cmp (on (λ (line : Line). line.group) text_cmp)
-    (then_cmp (on (λ (line : Line). line.size) nat_cmp)
-    (then_cmp (on (λ (line : Line). line.minute) int_cmp)
-    (on (λ (line : Line). line.target) text_cmp)))))))
+    then_cmp (then_cmp (then_cmp (then_cmp (then_cmp (then_cmp (then_cmp
+    (on (λ (line : Line). kind_place line.kind) nat_cmp)
+    (on (λ (line : Line). line.mode) nat_cmp))
+    (on (λ (line : Line). line.links) nat_cmp))
+    (on (λ (line : Line). line.owner) text_cmp))
+    (on (λ (line : Line). line.group) text_cmp))
+    (on (λ (line : Line). line.size) nat_cmp))
+    (on (λ (line : Line). line.minute) int_cmp))
+    (on (λ (line : Line). line.target) text_cmp)
 
 -- by name, and lines of one name by their other fields
 abbrev pub by_all_fields : LineOrder

@@ -1,6 +1,7 @@
 // Minutes as dates and times of day, in UTC.
-ghost use Rattle.std.specs.Prelude.{◌≡◌, ◌≤◌, ◌<◌, ◌++◌, OnOk};
-ghost use Rattle.listing_text.specs.Dates.{minute_text, minute_of as minute_of_text, minute_of_second, two_digits, four_digits, two_of, four_of, moment_of, stamp};
+ghost use Rattle.std.specs.Prelude.{◌≡◌, ◌≤◌, ◌<◌, ◌++◌, OnOk, ◌≤ℤ◌, ◌*ℤ◌, pos};
+ghost use Rattle.listing_text.specs.Dates.{minute_text, minute_of as minute_of_text, minute_of_second, two_digits, four_digits, two_of, four_of, moment_of, stamp, civil_minute, first_minute, last_minute};
+ghost use Rattle.jiff.specs.Words.{civil_nanos};
 
 use dired_text::Memory;
 use jiff::Timestamp;
@@ -53,9 +54,7 @@ fn shown_moment(minute: i64) -> Moment
     ensures hour { result.hour < 100 }
     ensures minute { result.minute < 100 }
 {
-    let shown = minute.clamp(FIRST_MINUTE, LAST_MINUTE);
-    let instant = Timestamp::from_second(shown * 60).unwrap_or(Timestamp::UNIX_EPOCH);
-    let civil = Offset::UTC.to_datetime(instant).to_plain();
+    let civil = civil_at(minute.clamp(FIRST_MINUTE, LAST_MINUTE)).to_plain();
     Moment {
         year: civil.date.year.unsigned_abs(),
         month: civil.date.month,
@@ -63,6 +62,16 @@ fn shown_moment(minute: i64) -> Moment
         hour: civil.time.hour,
         minute: civil.time.minute,
     }
+}
+
+// What a clock in UTC shows at a minute of the years 1 to 9998.
+fn civil_at(minute: i64) -> DateTime
+    requires first { first_minute ≤ℤ minute }
+    requires last { minute ≤ℤ last_minute }
+    ensures { civil_nanos result ≡ minute *ℤ pos 60_000_000_000 }
+{
+    let instant = Timestamp::from_second(minute * 60).unwrap_or(Timestamp::UNIX_EPOCH);
+    Offset::UTC.to_datetime(instant)
 }
 
 fn push_two(text: &mut Vec<u8>, number: u8) -> Result<(), Memory>
@@ -130,7 +139,20 @@ fn minute_at(year: u16, month: u8, day: u8, hour: u8, minute: u8) -> Option<i64>
     if year < 1 || 9998 < year || month > 12 || day > 31 || hour > 23 || minute > 59 {
         return None;
     }
-    let civil = DateTime::new(year as i16, month as i8, day as i8, hour as i8, minute as i8, 0, 0).ok()?;
-    let instant = Offset::UTC.to_timestamp(civil).ok()?;
-    Some(instant.as_second().div_euclid(60))
+    match DateTime::new(year as i16, month as i8, day as i8, hour as i8, minute as i8, 0, 0) {
+        Ok(civil) => Some(minute_of_civil(civil)),
+        Err(_) => None,
+    }
+}
+
+// The minute at which a clock in UTC shows a date of the years 1 to 9998 and a time of day in whole minutes.
+fn minute_of_civil(civil: DateTime) -> i64
+    requires first_year { pos 1 ≤ℤ civil.date.year }
+    requires last_year { civil.date.year ≤ℤ pos 9998 }
+    requires seconds { civil.time.second ≡ 0 }
+    requires fraction { civil.time.subsec_nanosecond ≡ 0 }
+    ensures { result ≡ civil_minute civil }
+{
+    let instant = Offset::UTC.to_timestamp(civil).unwrap_or(Timestamp::UNIX_EPOCH);
+    instant.as_second().div_euclid(60)
 }

@@ -1,5 +1,8 @@
 // What each field of a file's line takes off the front of a text.
-ghost use Rattle.std.specs.Prelude.{◌≡◌, ◌≤◌, ◌+◌, ◌-◌, not, length, option_map, IfSome, IfErr, IfOk, List, ℕ, Option, Some, None};
+ghost use Rattle.std.specs.Prelude.{◌≡◌, ◌≤◌, ◌+◌, ◌-◌, not, length, option_map, IfSome, IfErr, IfOk, List, ℕ, Option, Some, None, take, IsTrue};
+ghost use Rattle.std.specs.List.{list_all};
+ghost use Rattle.std.specs.Str.{bytes_eq};
+ghost use Rattle.listing_text.specs.Listed.{arrow};
 ghost use Rattle.listing_text.specs.Fields.{run_len, is_space as is_space_byte, mark_in as mark_in_text, kind_in as kind_in_text, mode_in as mode_in_text, number_in as number_in_text, word_in as word_in_text, date_in as date_in_text, is_word as is_word_text, is_word_byte as is_word_byte_of, word_len as word_len_of, arrow_place as arrow_place_in};
 ghost use Rattle.listing_text.specs.Reading.{behind_space as behind_space_of};
 ghost use Rattle.listing_text.specs.Numbers.{is_digit as is_digit_byte};
@@ -51,7 +54,8 @@ pub(crate) fn mode_in(kind: Kind, text: &[u8]) -> Option<(u16, &[u8])>
 // A number of at most `most`: the digits that the text begins with.
 #[tactic(auto, unfolding(crate::specs::Fields::number_in))]
 pub(crate) fn number_in(most: u64, text: &[u8]) -> Option<(u64, &[u8])>
-    ensures { option_map (λ t. (t.0, t.1.now)) result ≡ number_in_text most text.now }
+    ensures number { option_map (λ t. (t.0, t.1.now)) result ≡ number_in_text most text.now }
+    ensures bound { IfSome result (λ t. t.0 ≤ most) }
 {
     let (digits, rest) = text.split_at(digits_len(text));
     Some((read_number(digits, most)?, rest))
@@ -84,7 +88,13 @@ pub(crate) fn date_in(text: &[u8]) -> Option<(i64, &[u8])>
 fn is_word(word: &[u8]) -> bool
     ensures { result ≡ is_word_text word.now }
 {
-    1 <= word.len() && word.len() <= 64 && word.iter().all(|b| 33 <= *b && *b <= 126)
+    1 <= word.len() && word.len() <= 64 && has_word_bytes(word)
+}
+
+fn has_word_bytes(word: &[u8]) -> bool
+    ensures { result ≡ list_all is_word_byte_of word.now }
+{
+    word.iter().all(|b| 33 <= *b && *b <= 126)
 }
 
 // How many spaces a text begins with.
@@ -118,11 +128,18 @@ pub fn arrow_place(text: &[u8]) -> Option<usize>
     ensures within { IfSome result (λ place. place + 4 ≤ length text.now) }
 {
     for place in 0..text.len() {
-        if text[place..].starts_with(b" -> ") {
+        if begins_with_arrow(&text[place..]) {
             return Some(place);
         }
     }
     None
+}
+
+fn begins_with_arrow(text: &[u8]) -> bool
+    ensures value { result ≡ bytes_eq (take 4 text.now) arrow }
+    ensures within { IsTrue result → 4 ≤ length text.now }
+{
+    text.starts_with(b" -> ")
 }
 
 // What stands behind one space.

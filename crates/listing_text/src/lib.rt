@@ -5,12 +5,15 @@ mod columns;
 mod dates;
 mod faults;
 mod fields;
+mod laws;
 mod line;
 mod numbers;
 mod ordering;
 mod plain;
 mod reading;
 mod switches;
+#[cfg(test)]
+mod tests;
 mod writing;
 
 pub use dates::minute_of;

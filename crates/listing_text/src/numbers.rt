@@ -1,6 +1,9 @@
 // Numbers as decimal text.
-ghost use Rattle.std.specs.Prelude.{◌≡◌, ◌≤◌, decimal, length};
+ghost use Rattle.std.specs.Prelude.{◌≡◌, ◌≤◌, decimal, length, IsTrue, IfSome};
+ghost use Rattle.std.specs.List.{list_all};
 ghost use Rattle.listing_text.specs.Numbers.{is_digit as is_digit_byte, is_decimal as is_decimal_text, number_of};
+
+use std::str;
 
 // How many digits a number has.
 pub(crate) fn decimal_len(number: u64) -> usize
@@ -18,16 +21,34 @@ pub(crate) fn decimal_len(number: u64) -> usize
 // The number that a decimal text writes, where it is at most `most`. A leading zero is none but in `0`.
 #[tactic(auto, unfolding(crate::specs::Numbers::number_of))]
 pub(crate) fn read_number(text: &[u8], most: u64) -> Option<u64>
-    ensures { result ≡ number_of most text.now }
+    ensures number { result ≡ number_of most text.now }
+    ensures bound { IfSome result (λ n. n ≤ most) }
 {
     if !is_decimal(text) {
         return None;
     }
-    let mut number = 0u64;
-    for digit in text {
-        number = number.checked_mul(10)?.checked_add(u64::from(*digit - b'0'))?;
+    match str::from_utf8(text) {
+        Ok(digits) => parse_up_to(digits, most),
+        Err(_) => None,
     }
-    if number <= most { Some(number) } else { None }
+}
+
+// The number that digits write, where it is at most `most`.
+fn parse_up_to(digits: &str, most: u64) -> Option<u64>
+    requires { IsTrue (is_decimal_text digits.now) }
+    ensures number { result ≡ number_of most digits.now }
+    ensures bound { IfSome result (λ n. n ≤ most) }
+{
+    match digits.parse::<u64>() {
+        Ok(number) => {
+            if number <= most {
+                Some(number)
+            } else {
+                None
+            }
+        }
+        Err(_) => None,
+    }
 }
 
 // Whether a text has one digit or more, the first of several no zero.
@@ -37,9 +58,15 @@ fn is_decimal(text: &[u8]) -> bool
     match text {
         [] => false,
         [first, rest @ ..] => {
-            text.iter().all(|b| is_digit(*b)) && (*first != b'0' || rest.is_empty())
+            has_digits(text) && (*first != b'0' || rest.is_empty())
         }
     }
+}
+
+fn has_digits(text: &[u8]) -> bool
+    ensures { result ≡ list_all is_digit_byte text.now }
+{
+    text.iter().all(|b| is_digit(*b))
 }
 
 pub(crate) fn is_digit(b: u8) -> bool

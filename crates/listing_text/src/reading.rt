@@ -2,9 +2,10 @@
 ghost use Rattle.std.specs.Prelude.{◌≡◌, ◌⊎◌, ◌-◌, ◌+◌, length, ◌≤◌, IfSome, Ok};
 ghost use Rattle.std.specs.Result.{result_map_both};
 ghost use Rattle.dired_text.specs.Answers.{IsOrMemory};
+ghost use Rattle.dired_text.specs.Escape.{unescaped};
 ghost use Rattle.listing_text.specs.declared.faults.LineFault.TheVariants.{Bad as bad_field, Memory as memory};
 ghost use Rattle.listing_text.specs.declared.faults.Field.TheVariants as field_of;
-ghost use Rattle.listing_text.specs.Fields.{kind_in as kind_in_text, number_in as number_in_text, word_in as word_in_text, date_in as date_in_text, plain_of, name_of, target_of};
+ghost use Rattle.listing_text.specs.Fields.{kind_in as kind_in_text, number_in as number_in_text, word_in as word_in_text, date_in as date_in_text, if_read, plain_of, name_of, target_of};
 ghost use Rattle.listing_text.specs.Reading.{line_of, front_of, seen, gapped, one, some, spaced, names_in, link_names, name_at};
 
 use crate::fields::{arrow_place, behind_space, date_in, kind_in, mark_in, mode_in, number_in, space_len, word_in};
@@ -43,6 +44,7 @@ pub struct Head<'a> {
 /// # Errors
 /// `Bad` names the first bad field from the left, at the place where it begins behind its spaces. A missing space, and
 /// one too many, is a fault of the field behind. Of a link without ` -> ` the field is `Target`, at the text's end.
+#[tactic(auto, unfolding(crate::specs::Reading::line_of))]
 pub fn read_line(alloc: Global, text: &[u8]) -> Result<(u8, Line), LineFault>
     ensures { IsOrMemory memory (line_of text.now) result }
 {
@@ -208,12 +210,19 @@ fn read_link_names(alloc: Global, bytes: usize, rest: &[u8], place: Option<usize
 }
 
 // The name that begins where the rest of a text begins.
+#[tactic(auto, unfolding(crate::specs::Fields::name_of))]
 pub fn read_name(alloc: Global, bytes: usize, rest: &[u8], shown: &[u8]) -> Result<Text, LineFault>
     ensures { IsOrMemory memory (name_at bytes rest.now shown.now) result }
 {
     match read_plain_text(alloc, shown)? {
-        Some(name) if !name.as_str().is_empty() => Ok(name),
-        _ => Err(bad(Field::Name, bytes, rest)),
+        Some(name) => {
+            if name.as_str().is_empty() {
+                Err(bad(Field::Name, bytes, rest))
+            } else {
+                Ok(name)
+            }
+        }
+        None => Err(bad(Field::Name, bytes, rest)),
     }
 }
 
@@ -223,8 +232,15 @@ pub fn read_target(alloc: Global, shown: &[u8]) -> Result<Option<Text>, LineFaul
     ensures { IsOrMemory memory (Ok (target_of shown.now)) result }
 {
     match read_plain_text(alloc, shown)? {
-        Some(target) if 1 <= target.as_str().len() && target.as_str().len() <= 4095 => Ok(Some(target)),
-        _ => Ok(None),
+        Some(target) => {
+            let len = target.as_str().len();
+            if 1 <= len && len <= 4095 {
+                Ok(Some(target))
+            } else {
+                Ok(None)
+            }
+        }
+        None => Ok(None),
     }
 }
 
@@ -233,9 +249,16 @@ pub fn read_target(alloc: Global, shown: &[u8]) -> Result<Option<Text>, LineFaul
 fn read_plain_text(alloc: Global, shown: &[u8]) -> Result<Option<Text>, LineFault>
     ensures { IsOrMemory memory (Ok (plain_of shown.now)) result }
 {
-    let Ok(shown) = str::from_utf8(shown) else {
-        return Ok(None);
-    };
+    match str::from_utf8(shown) {
+        Ok(text) => read_escaped(alloc, text),
+        Err(_) => Ok(None),
+    }
+}
+
+// What an escaped text stands for, where it is one.
+fn read_escaped(alloc: Global, shown: &str) -> Result<Option<Text>, LineFault>
+    ensures { IsOrMemory memory (Ok (if_read (unescaped shown.now))) result }
+{
     match unescape(alloc, shown) {
         Ok(text) => Ok(Some(text)),
         Err(EscapeError::BadEscape(_)) => Ok(None),

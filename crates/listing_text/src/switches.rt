@@ -23,7 +23,7 @@ pub fn read_switches(text: &str) -> Option<Switches>
 {
     match text.as_bytes() {
         [b'-', letters @ ..] => {
-            if letters.is_empty() || !letters.iter().all(|b| is_switch(*b)) {
+            if letters.is_empty() || !are_switches(letters) {
                 return None;
             }
             Some(Switches {
@@ -35,6 +35,12 @@ pub fn read_switches(text: &str) -> Option<Switches>
         }
         _ => None,
     }
+}
+
+fn are_switches(letters: &[u8]) -> bool
+    ensures { result ≡ list_all is_switch_byte letters.now }
+{
+    letters.iter().all(|b| is_switch(*b))
 }
 
 fn is_switch(b: u8) -> bool

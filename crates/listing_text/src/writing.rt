@@ -2,7 +2,7 @@
 ghost use Rattle.std.specs.Prelude.{◌≡◌, ◌++◌, IfOk, OnOk, ◌∷◌, [], ◌%◌};
 ghost use Rattle.dired_text.specs.Modes.{mode_letters};
 ghost use Rattle.dired_text.specs.Escape.{escaped};
-ghost use Rattle.listing_text.specs.Listed.{kind_letter as kind_letter_of, is_link as is_link_kind, names_text, line_text_of, dir_text, header_text_of, total_text_of, lines_text, section_text_of};
+ghost use Rattle.listing_text.specs.Listed.{kind_letter as kind_letter_of, is_link as is_link_kind, names_text, start_text, line_text_of, dir_text, header_text_of, total_text_of, lines_text, section_text_of};
 
 use crate::columns::{push_columns, widths};
 use crate::dates::push_minute;
@@ -97,15 +97,24 @@ fn push_lines(alloc: Global, text: &mut Vec<u8>, lines: &[(u8, Line)], widths: &
 fn push_line(alloc: Global, text: &mut Vec<u8>, mark: u8, line: &Line, widths: &Widths) -> Result<(), Memory>
     ensures { OnOk result (text.new.items ≡ text.old.items ++ line_text_of mark line.now widths.now) }
 {
-    text.push(mark)?;
-    text.push(b' ')?;
-    text.push(kind_letter(line.kind))?;
-    text.extend_from_slice(&mode_text(line.mode % 0o10000))?;
+    push_start(text, mark, line)?;
     push_columns(alloc, text, line, widths)?;
     text.push(b' ')?;
     push_minute(text, line.minute)?;
     text.push(b' ')?;
     push_names(alloc, text, line)
+}
+
+// Pushes the mark, the kind and the letters of the mode.
+#[tactic(auto, unfolding(crate::specs::Listed::start_text))]
+fn push_start(text: &mut Vec<u8>, mark: u8, line: &Line) -> Result<(), Memory>
+    ensures { OnOk result (text.new.items ≡ text.old.items ++ start_text mark line.now) }
+{
+    text.push(mark)?;
+    text.push(b' ')?;
+    text.push(kind_letter(line.kind))?;
+    text.extend_from_slice(&mode_text(line.mode % 0o10000))?;
+    Ok(())
 }
 
 // Pushes the name, and the target of a link.
