@@ -159,6 +159,7 @@ impl MemTree {
         ensures looks { (self.new.failing_looks ≡ self.old.failing_looks) × (self.new.looks ≡ self.old.looks) }
         ensures history { history_told self.new ≡ history_told self.old }
         ensures before_failed { before_failed_told self.new ≡ before_failed_told self.old }
+        ensures fields { fields_told self.new ≡ fields_told self.old }
         ensures faults { self.new.faults ≡ self.old.faults }
         ensures short { self.new.short ≡ self.old.short }
     {
@@ -178,6 +179,7 @@ impl MemTree {
         ensures changes { (self.new.failing_changes ≡ self.old.failing_changes) × (self.new.changes ≡ self.old.changes) }
         ensures history { history_told self.new ≡ history_told self.old }
         ensures before_failed { before_failed_told self.new ≡ before_failed_told self.old }
+        ensures fields { fields_told self.new ≡ fields_told self.old }
         ensures faults { self.new.faults ≡ self.old.faults }
         ensures short { self.new.short ≡ self.old.short }
     {
