@@ -1,116 +1,197 @@
-// Reading the buffer of a listing.
-ghost use Rattle.std.specs.Prelude.{◌≡◌, ◌⊎◌, ◌<◌, ◌≤◌, [], ◌∷◌, length, drop, Ok, Err, IfOk, IfErr, IsTrue};
-ghost use Rattle.std.specs.List.{list_all};
-ghost use Rattle.listing_text.specs.PlainLines.{is_plain_name};
-ghost use Rattle.wdired_buffer.specs.Buffer.{buffer_of, line_of, entry_of, is_head as is_head_of, is_total as is_total_of, is_digit};
+// Reading a buffer.
+ghost use Rattle.std.specs.Prelude.{◌≡◌, ◌⊎◌, ◌<◌, ◌≤◌, ◌+◌, [], ◌∷◌, length, Ok, Err, IfOk, IfErr, IfSome};
+ghost use Rattle.dired_text.specs.Answers.{IsOrMemory};
+ghost use Rattle.wdired_buffer.specs.declared.faults.BufferFault.TheVariants.{Bad as bad_line, Memory as memory};
+ghost use Rattle.wdired_buffer.specs.declared.faults.BufferCause.TheVariants as cause_of;
+ghost use Rattle.wdired_buffer.specs.Buffer.{buffer_of, line_of, end_of, entry_of, header_of, shown, link_shown, fault_at};
 
-use crate::splitting::split_line;
-use crate::{BufferFault, BufferLine};
-use dired_text::{Bytes, Memory, Name, Path, Text};
-use listing_text::{Plain, read_plain};
+use crate::due::Due;
+use crate::headers::{header_in, is_total, read_dir, read_path};
+use crate::splitting::{count_lines, split_line};
+use crate::{BufferCause, BufferFault, BufferLine};
+use dired_text::{Bytes, Path, Text};
+use listing_text::{Field, LineFault, arrow_place, behind_space, read_head, read_target};
 use std::alloc::Global;
-use std::str;
 use tree_core::{Kind, Shown};
 
-// The first two lines of a listing of one directory, and how the third begins.
+// The first line.
 const FORMAT: &[u8] = b"dired 1";
 
-const HERE: &[u8] = b"  .:";
+// The most lines that a buffer may have.
+const MAX_LINES: usize = 200_000;
 
-const TOTAL: &[u8] = b"  total ";
-
-/// The lines of a listing: `dired 1`, `  .:`, `  total ` with 1 to 18 digits, and then lines of plain files. A newline
-/// may be missing behind the last.
+/// The lines of a buffer. The first is `dired 1`; one or more sections follow, with an empty line between two. A section
+/// is its header, its total, and a line for each file. A newline may be missing behind the last line.
 ///
 /// # Errors
-/// `NotBuilt` with the first line that isn't of the form.
+/// `TooManyLines` where there are more than 200,000 lines, before all else. Otherwise `Bad` with the first line that
+/// isn't of the form, which is the one behind the last where the text ends too early.
 pub fn read_buffer(alloc: Global, bytes: &[u8]) -> Result<Vec<BufferLine>, BufferFault>
     requires { length bytes.now < 4294967295 }
     ensures lines { IfOk result (λ v. buffer_of bytes.now ≡ Ok v.items) }
-    ensures refused { IfErr result (λ e. (e ≡ BufferFault.Memory) ⊎ (buffer_of bytes.now ≡ Err e)) }
+    ensures refused { IfErr result (λ e. (e ≡ memory) ⊎ (buffer_of bytes.now ≡ Err e)) }
 {
+    let count = count_lines(bytes);
+    if count > MAX_LINES {
+        return Err(BufferFault::TooManyLines(count as u64));
+    }
     let mut all = Vec::new(alloc);
+    let mut due = Due::First;
     let mut rest = bytes;
     let mut number = 1;
     while let Some((text, behind)) = split_line(rest) {
-        all.push(read_line(alloc, number, text)?)?;
+        let (line, next) = read_due(alloc, number, due, text)?;
+        all.push(line)?;
+        due = next;
         number += 1;
         rest = behind;
     }
-    if number <= 3 {
-        return Err(BufferFault::NotBuilt(number));
-    }
+    check_end(number, &due)?;
     Ok(all)
 }
 
-// The line of this number that a text is.
-fn read_line(alloc: Global, number: u32, text: &[u8]) -> Result<BufferLine, BufferFault>
-    ensures line { IfOk result (λ line. line_of number text.now ≡ Ok (line ∷ [])) }
-    ensures refused { IfErr result (λ e. (e ≡ BufferFault.Memory) ⊎ (line_of number text.now ≡ Err e)) }
+// The line of this number that a text is, and what is due behind it.
+#[tactic(auto, unfolding(crate::specs::Buffer::line_of))]
+fn read_due(
+    alloc: Global,
+    number: u32,
+    due: Due,
+    text: &[u8],
+) -> Result<(BufferLine, Due), BufferFault>
+    ensures { IsOrMemory memory (line_of number due text.now) result }
 {
-    if number <= 3 {
-        if !is_head(number, text) {
-            return Err(BufferFault::NotBuilt(number));
-        }
-        return Ok(BufferLine::Fixed(Bytes::copy_of(alloc, text)?));
-    }
-    match read_plain(text) {
-        Some(plain) => Ok(entry(alloc, text, plain)?),
-        None => Err(BufferFault::NotBuilt(number)),
+    match due {
+        Due::First if text == FORMAT => Ok((fixed(alloc, text)?, Due::Header)),
+        Due::First => Err(bad(number, BufferCause::FirstLine)),
+        Due::Header => read_header(alloc, number, text),
+        Due::Total(dir) if is_total(text) => Ok((fixed(alloc, text)?, Due::Rows(dir))),
+        Due::Total(_) => Err(bad(number, BufferCause::Total)),
+        Due::Rows(_) if text.is_empty() => Ok((fixed(alloc, text)?, Due::Header)),
+        Due::Rows(dir) => Ok((read_entry(alloc, number, &dir, text)?, Due::Rows(dir))),
+        Due::Gap if text.is_empty() => Ok((fixed(alloc, text)?, Due::Header)),
+        Due::Gap => Err(bad(number, BufferCause::Header)),
     }
 }
 
-// The entry of a plain file's line.
-fn entry(alloc: Global, text: &[u8], plain: Plain) -> Result<BufferLine, Memory>
-    requires place { plain.name_at ≤ length text.now }
-    requires name { IsTrue (is_plain_name (drop plain.name_at text.now)) }
-    ensures { IfOk result (λ line. line ≡ entry_of text.now plain) }
+// Whether a buffer may end where this is due, at the line of this number.
+#[tactic(auto, unfolding(crate::specs::Buffer::end_of))]
+fn check_end(number: u32, due: &Due) -> Result<(), BufferFault>
+    ensures ok { IfOk result (λ _. end_of number due.now ≡ Ok []) }
+    ensures err { IfErr result (λ e. end_of number due.now ≡ Err e) }
 {
-    let Ok(name_text) = str::from_utf8(&text[plain.name_at as usize..]) else {
-        unreachable!()
-    };
-    let Some(name) = Name::new(alloc, name_text)? else {
-        unreachable!()
-    };
-    let Some(source) = Path::join(alloc, &[name])? else {
-        unreachable!()
-    };
+    match due {
+        Due::First => Err(bad(number, BufferCause::FirstLine)),
+        Due::Header => Err(bad(number, BufferCause::Header)),
+        Due::Total(_) => Err(bad(number, BufferCause::Total)),
+        Due::Rows(_) | Due::Gap => Ok(()),
+    }
+}
+
+// A line that is bad.
+fn bad(line: u32, cause: BufferCause) -> BufferFault
+    ensures { result ≡ bad_line line cause }
+{
+    BufferFault::Bad { line, cause }
+}
+
+// A line that no edit changes.
+fn fixed(alloc: Global, text: &[u8]) -> Result<BufferLine, BufferFault>
+    ensures { IsOrMemory memory (Ok (BufferLine.Fixed text.now)) result }
+{
+    Ok(BufferLine::Fixed(Bytes::copy_of(alloc, text)?))
+}
+
+// The header that a text is, and what is due behind it.
+#[tactic(auto, unfolding(crate::specs::Buffer::header_of))]
+fn read_header(alloc: Global, number: u32, text: &[u8]) -> Result<(BufferLine, Due), BufferFault>
+    ensures { IsOrMemory memory (header_of number text.now) result }
+{
+    let (hidden, path) = header_in(text).ok_or(bad(number, BufferCause::Header))?;
+    let dir = read_dir(alloc, path)?.ok_or(bad(number, BufferCause::Header))?;
+    let due = if hidden { Due::Gap } else { Due::Total(dir.copy()?) };
+    Ok((
+        BufferLine::Header {
+            text: Bytes::copy_of(alloc, text)?,
+            dir,
+        },
+        due,
+    ))
+}
+
+// The file's line that a text is, in a directory's section.
+#[tactic(auto, unfolding(crate::specs::Buffer::entry_of))]
+fn read_entry(
+    alloc: Global,
+    number: u32,
+    dir: &Path,
+    text: &[u8],
+) -> Result<BufferLine, BufferFault>
+    ensures { IsOrMemory memory (entry_of number dir.now text.now) result }
+{
+    let head = read_head(text).map_err(|fault| line_fault(number, fault))?;
+    let rest = behind_space(head.rest).ok_or(bad(number, BufferCause::Line(Field::Name)))?;
+    let (source, target) = read_shown(alloc, number, dir, head.kind, rest)?;
     Ok(BufferLine::Entry {
         text: Bytes::copy_of(alloc, text)?,
-        name_at: plain.name_at,
+        name_at: text.len().saturating_sub(rest.len()) as u64,
         source,
         was: Shown {
-            kind: Kind::File,
-            mode: plain.mode,
-            target: Text::from_string(String::new(alloc)),
+            kind: head.kind,
+            mode: head.mode,
+            target,
         },
     })
 }
 
-// Whether a text is what stands on one of the first three lines.
-fn is_head(number: u32, text: &[u8]) -> bool
-    ensures { result ≡ is_head_of number text.now }
+// The fault of a file's line.
+fn line_fault(number: u32, fault: LineFault) -> BufferFault
+    ensures { result ≡ fault_at number fault }
 {
-    match number {
-        1 => text == FORMAT,
-        2 => text == HERE,
-        _ => is_total(text),
+    match fault {
+        LineFault::Bad { field, .. } => bad(number, BufferCause::Line(field)),
+        LineFault::Memory => BufferFault::Memory,
     }
 }
 
-// Whether a text tells a total of 1 to 18 digits.
-fn is_total(text: &[u8]) -> bool
-    ensures { result ≡ is_total_of text.now }
+// The path that is shown in a directory's section, and the target of a link.
+#[tactic(auto, unfolding(crate::specs::Buffer::shown))]
+fn read_shown(
+    alloc: Global,
+    number: u32,
+    dir: &Path,
+    kind: Kind,
+    rest: &[u8],
+) -> Result<(Path, Text), BufferFault>
+    ensures { IsOrMemory memory (shown number dir.now kind rest.now) result }
 {
-    match text.strip_prefix(TOTAL) {
-        Some(digits) => 1 <= digits.len() && digits.len() <= 18 && has_digits(digits),
-        None => false,
+    match kind {
+        Kind::Link => read_link(alloc, number, dir, rest, arrow_place(rest)),
+        Kind::File | Kind::Dir => {
+            let path = read_path(alloc, dir, rest)?.ok_or(bad(number, BufferCause::Line(Field::Name)))?;
+            Ok((path, Text::from_string(String::new(alloc))))
+        }
     }
 }
 
-// Whether each byte is a digit.
-fn has_digits(text: &[u8]) -> bool
-    ensures { result ≡ list_all is_digit text.now }
+// The path of a link, whose name ends before this place, and its target behind ` -> `.
+#[tactic(auto, unfolding(crate::specs::Buffer::link_shown))]
+fn read_link(
+    alloc: Global,
+    number: u32,
+    dir: &Path,
+    rest: &[u8],
+    place: Option<usize>,
+) -> Result<(Path, Text), BufferFault>
+    requires { IfSome place (λ n. n + 4 ≤ length rest.now) }
+    ensures { IsOrMemory memory (link_shown number dir.now rest.now place) result }
 {
-    text.iter().all(|b| b'0' <= *b && *b <= b'9')
+    let Some(place) = place else {
+        return Err(bad(number, BufferCause::Line(Field::Target)));
+    };
+    let path = read_path(alloc, dir, &rest[..place])?.ok_or(bad(number, BufferCause::Line(Field::Name)))?;
+    match read_target(alloc, &rest[place + 4..]) {
+        Ok(Some(target)) => Ok((path, target)),
+        Ok(None) => Err(bad(number, BufferCause::Line(Field::Target))),
+        Err(_) => Err(BufferFault::Memory),
+    }
 }

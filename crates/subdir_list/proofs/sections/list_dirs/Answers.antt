@@ -15,7 +15,8 @@ loop-path-preserved g c =
     let p : Names = c.path-item.result in
     let section : List ℕ = c.in_ok-section.section in
     let below : i < length paths = search rules in
-    let first : take (i + 1) paths ≡ take i paths ++ p ∷ [] = ap (λ (n : ℕ). take n paths) (omega arith) ∙ take-suc paths i p below ∙ ap (λ (q : Names). take i paths ++ q ∷ []) (sym c.path-item.is) in
+    let one : i + 1 ≡ suc i = omega arith in
+    let first : take (i + 1) paths ≡ take i paths ++ p ∷ [] = ap (λ (n : ℕ). take n paths) one ∙ take-suc paths i p below ∙ ap (λ (q : Names). take i paths ++ q ∷ []) (sym c.path-item.is) in
     let text : c.extend_from_slice-in-loop-path.new.self.items ≡ (c.loop-path.text.items ++ 10 ∷ []) ++ section = search rules in
     record {
       sections = λ tells.

@@ -5,7 +5,7 @@ use Rattle.wdired_buffer.proofs.reading.read_buffer.Given as goal
 
 abbrev pub invariant-loop-text : goal.invariant-loop-text
 invariant-loop-text l = record {
-  so_far : buffer_of l.bytes ≡ in_front l.all.items (lines_from l.number (lines l.rest));
+  so_far : buffer_of l.bytes ≡ in_front l.all.items (lines_from l.number l.due (lines l.rest));
   count : l.number + length l.rest ≤ length l.bytes + 1;
 }
 

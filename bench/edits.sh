@@ -1,0 +1,35 @@
+#!/usr/bin/env bash
+# The time of `commit` on buffers of 100,000 and of 199,990 lines beside `cat BEFORE AFTER | md5sum`, in an empty folder:
+# unchanged, with each name changed, with each mode changed, and with a bad name on the last line. Each ends before it
+# changes anything.
+# edits.sh PROGRAM
+set -eu
+program=$(readlink -f "$1")
+work=$(mktemp -d)
+trap 'rm -rf "$work"' EXIT
+mkdir "$work/empty"
+
+# milliseconds that a command takes, the least of five runs
+least() {
+    local best=999999999 start end
+    for _ in 1 2 3 4 5; do
+        start=$(date +%s%N); "$@" > /dev/null; end=$(date +%s%N)
+        [ $((end - start)) -ge "$best" ] || best=$((end - start))
+    done
+    awk -v n="$best" 'BEGIN { printf "%.1f", n / 1000000 }'
+}
+commit() { cd "$work/empty"; "$program" commit ../before "../$1" || true; cd - > /dev/null; }
+digest() { cat "$work/before" "$work/$1" | md5sum; }
+
+for lines in 100000 199990; do
+    awk -v n="$lines" 'BEGIN { print "dired 1"; print "  .:"; print "  total " n
+        for (i = 1; i <= n; i++) printf "  -rw-r--r-- 1 user group 0 2026-01-01 00:00 file%06d\n", i }' > "$work/before"
+    cp "$work/before" "$work/unchanged"
+    sed 's/ file/ other/' "$work/before" > "$work/renamed"
+    sed 's/^  -rw-r--r--/  -rw-------/' "$work/before" > "$work/modes"
+    sed '$s/$/\\/' "$work/before" > "$work/faulty"
+    for after in unchanged renamed modes faulty; do
+        a=$(least commit "$after"); b=$(least digest "$after")
+        awk -v l="$lines" -v t="$after" -v a="$a" -v b="$b" 'BEGIN { printf "%d lines, %s: commit %s ms, cat | md5sum %s ms, ratio %.1f\n", l, t, a, b, a / b }'
+    done
+done
