@@ -261,3 +261,10 @@ minute_text-length minute = refl
 pub minute_text-head : (minute : ℤ) (rest : List ℕ) → Stops is_space (minute_text minute ++ rest)
 unfolding minute_text
 minute_text-head minute rest = ne_eqb _ 32 (λ e. absurd (omega arith))
+
+pub shown-again : (minute : ℤ) → shown_minute (shown_minute minute) ≡ shown_minute minute
+shown-again minute = let bounds = shown-bounds minute in shown-between (shown_minute minute) bounds.0 bounds.1
+
+pub minute_text-shown : (minute : ℤ) → minute_text (shown_minute minute) ≡ minute_text minute
+unfolding minute_text
+minute_text-shown minute = rw (shown-again minute) refl
