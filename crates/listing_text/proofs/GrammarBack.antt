@@ -29,9 +29,9 @@ pub record FrontText (front : Front) (text : List ℕ) : Type 0 where
   pub before_group : ℕ
   pub before_size : ℕ
   pub is : text ≡ front.mark ∷ 32 ∷ kind_letter front.kind ∷ mode_letters front.mode
-    ++ 32 ∷ spaces before_links ++ decimal front.links ++ 32 ∷ spaces before_owner ++ front.owner
-    ++ 32 ∷ spaces before_group ++ front.group ++ 32 ∷ spaces before_size ++ decimal front.size
-    ++ 32 ∷ minute_text front.minute ++ front.rest
+      ++ 32 ∷ spaces before_links ++ decimal front.links ++ 32 ∷ spaces before_owner ++ front.owner
+      ++ 32 ∷ spaces before_group ++ front.group ++ 32 ∷ spaces before_size ++ decimal front.size
+      ++ 32 ∷ minute_text front.minute ++ front.rest
   pub mark_low : 32 ≤ front.mark
   pub mark_high : front.mark ≤ 126
   pub mode : IsModeOf front.kind front.mode
@@ -151,10 +151,10 @@ shown-steps text front h =
       before_group = gap h.owner.1 - 1;
       before_size = gap h.group.1 - 1;
       is = parts-joined h.mark.0 (kind_letter h.kind.0) text h.mark.1 (behind_gap h.mark.1) h.kind.1 (mode_letters h.mode.0) h.mode.1 (32 ∷ spaces (gap h.mode.1 - 1)) (behind_gap h.mode.1)
-        (decimal h.links.0) h.links.1 (32 ∷ spaces (gap h.links.1 - 1)) (behind_gap h.links.1) h.owner.0 h.owner.1 (32 ∷ spaces (gap h.owner.1 - 1)) (behind_gap h.owner.1) h.group.0 h.group.1
-        (32 ∷ spaces (gap h.group.1 - 1)) (behind_gap h.group.1) (decimal h.size.0) h.size.1 (behind_gap h.size.1) (minute_text h.date.0) h.date.1
-        e1.0 (one-split h.mark.1 g2.0) e2 e3.0 (some-split h.mode.1 g4.0) e4.0 (some-split h.links.1 g5.0) e5.0 (some-split h.owner.1 g6.0) e6.0 (some-split h.group.1 g7.0) e7.0
-        (one-split h.size.1 g8.0) e8.0;
+          (decimal h.links.0) h.links.1 (32 ∷ spaces (gap h.links.1 - 1)) (behind_gap h.links.1) h.owner.0 h.owner.1 (32 ∷ spaces (gap h.owner.1 - 1)) (behind_gap h.owner.1) h.group.0 h.group.1
+          (32 ∷ spaces (gap h.group.1 - 1)) (behind_gap h.group.1) (decimal h.size.0) h.size.1 (behind_gap h.size.1) (minute_text h.date.0) h.date.1
+          e1.0 (one-split h.mark.1 g2.0) e2 e3.0 (some-split h.mode.1 g4.0) e4.0 (some-split h.links.1 g5.0) e5.0 (some-split h.owner.1 g6.0) e6.0 (some-split h.group.1 g7.0) e7.0
+          (one-split h.size.1 g8.0) e8.0;
       mark_low = e1.1;
       mark_high = e1.2;
       mode = e3.1;
@@ -210,9 +210,14 @@ link-from bytes text (Some place) is v e =
     let b2 = bind-from _ (or_bad field.Target bytes (drop (place + 4) text) (target_of (drop (place + 4) text))) v b1.2 in
     let same : (b1.0, b2.0) ≡ v = same_Ok (b1.0, b2.0) v b2.2 in
     let len : place ≡ length (take place text) = omega (arith, length-take place text, found.0) in
-    let shown : IsNamesText Link b1.0 b2.0 text = (take place text, drop (place + 4) text,
-      sym (take-append-drop place text) ∙ ap (λ t. take place text ++ t) found.1 ∙ sym (append_assoc (take place text) arrow (drop (place + 4) text)), is ∙ ap Some len,
-      name-from bytes text (take place text) b1.0 b1.1, or_bad-from field.Target bytes (drop (place + 4) text) (target_of (drop (place + 4) text)) b2.0 b2.1) in
+    let shown : IsNamesText Link b1.0 b2.0 text = (
+      take place text,
+      drop (place + 4) text,
+      sym (take-append-drop place text) ∙ ap (λ t. take place text ++ t) found.1 ∙ sym (append_assoc (take place text) arrow (drop (place + 4) text)),
+      is ∙ ap Some len,
+      name-from bytes text (take place text) b1.0 b1.1,
+      or_bad-from field.Target bytes (drop (place + 4) text) (target_of (drop (place + 4) text)) b2.0 b2.1,
+    ) in
     subst (λ (x : List ℕ × List ℕ). IsNamesText Link x.0 x.1 text) same shown
 
 pub names-from : (kind : Kind) (bytes : ℕ) (text : List ℕ) (v : List ℕ × List ℕ) → names_in kind bytes text ≡ Ok v → IsNamesText kind v.0 v.1 text
@@ -247,9 +252,9 @@ grammar-from mark line text e =
       before_size = h.before_size;
       names = rest;
       is = subst (λ t. text ≡ front.mark ∷ 32 ∷ kind_letter front.kind ∷ mode_letters front.mode
-        ++ 32 ∷ spaces h.before_links ++ decimal front.links ++ 32 ∷ spaces h.before_owner ++ front.owner
-        ++ 32 ∷ spaces h.before_group ++ front.group ++ 32 ∷ spaces h.before_size ++ decimal front.size
-        ++ 32 ∷ minute_text front.minute ++ t) space h.is;
+          ++ 32 ∷ spaces h.before_links ++ decimal front.links ++ 32 ∷ spaces h.before_owner ++ front.owner
+          ++ 32 ∷ spaces h.before_group ++ front.group ++ 32 ∷ spaces h.before_size ++ decimal front.size
+          ++ 32 ∷ minute_text front.minute ++ t) space h.is;
       mark_low = h.mark_low;
       mark_high = h.mark_high;
       mode = h.mode;

@@ -39,7 +39,7 @@ as-written : (m k : ℕ) (ml : List ℕ) (x y u z : ℕ) (l o g s t n : List ℕ
 as-written m k ml x y u z l o g s t n =
     opened (m ∷ 32 ∷ k ∷ ml) (spaces x) l o (spaces y) g (spaces u) (spaces z) s t n
     ∙ ap (λ r. m ∷ 32 ∷ k ∷ (ml ++ (32 ∷ (spaces x ++ (l ++ (32 ∷ (o ++ r))))))) (spaces-shift y (g ++ (spaces u ++ (32 ∷ (spaces z ++ (s ++ (t ++ n))))))
-      ∙ ap (λ r. 32 ∷ (spaces y ++ (g ++ r))) (spaces-merge u z (s ++ (t ++ n))))
+    ∙ ap (λ r. 32 ∷ (spaces y ++ (g ++ r))) (spaces-merge u z (s ++ (t ++ n))))
     ∙ sym (flat m k ml (32 ∷ spaces x) l (32 ∷ spaces 0) o (32 ∷ spaces y) g (32 ∷ spaces (u + z)) s t n)
 
 mode-small : (kind : Kind) (mode : ℕ) → IsModeOf kind mode → mode % 0o10000 ≡ mode
@@ -51,9 +51,14 @@ names-written : (kind : Kind) (name target : List ℕ) → IsUtf8 name → All (
 names-written File name target utf8 whole more h = (ap name_of (append-nil (escaped false name)) ∙ name-back false name utf8 whole more, h)
 names-written Dir name target utf8 whole more h = (ap name_of (append-nil (escaped false name)) ∙ name-back false name utf8 whole more, h)
 names-written Link name target utf8 whole more h =
-    let same = append_assoc (escaped true name) arrow (escaped false target) in
-    (escaped true name, escaped false target, sym same, ap arrow_place (sym same) ∙ arrow-first (escaped true name) (escaped false target) (escaped-other name),
-      name-back true name utf8 whole more, target-back target h.0 h.1 h.2 h.3)
+    let same = append_assoc (escaped true name) arrow (escaped false target) in (
+      escaped true name,
+      escaped false target,
+      sym same,
+      ap arrow_place (sym same) ∙ arrow-first (escaped true name) (escaped false target) (escaped-other name),
+      name-back true name utf8 whole more,
+      target-back target h.0 h.1 h.2 h.3,
+    )
 
 pub line-written : (mark : ℕ) (line : Line) (widths : Widths) → 32 ≤ mark → mark ≤ 126 → IsLawful line → IsLineText mark (as_shown line) (line_text_of mark line widths)
 unfolding line_text_of start_text columns_text names_text
@@ -64,11 +69,11 @@ line-written mark line widths low high h = record {
   before_size = widths.group - length line.group + (widths.size - length (decimal line.size));
   names = names_text line;
   is = as-written mark (kind_letter line.kind) (mode_letters (line.mode % 0o10000)) (widths.links - length (decimal line.links)) (widths.owner - length line.owner)
-    (widths.group - length line.group) (widths.size - length (decimal line.size)) (decimal line.links) line.owner line.group (decimal line.size) (32 ∷ minute_text line.minute) (32 ∷ names_text line)
-    ∙ ap (λ ml. mark ∷ 32 ∷ kind_letter line.kind ∷ ml ++ 32 ∷ spaces (widths.links - length (decimal line.links)) ++ decimal line.links ++ 32 ∷ spaces 0 ++ line.owner
+      (widths.group - length line.group) (widths.size - length (decimal line.size)) (decimal line.links) line.owner line.group (decimal line.size) (32 ∷ minute_text line.minute) (32 ∷ names_text line)
+      ∙ ap (λ ml. mark ∷ 32 ∷ kind_letter line.kind ∷ ml ++ 32 ∷ spaces (widths.links - length (decimal line.links)) ++ decimal line.links ++ 32 ∷ spaces 0 ++ line.owner
       ++ 32 ∷ spaces (widths.owner - length line.owner) ++ line.group ++ 32 ∷ spaces (widths.group - length line.group + (widths.size - length (decimal line.size))) ++ decimal line.size
       ++ 32 ∷ minute_text line.minute ++ 32 ∷ names_text line) (ap mode_letters (mode-small line.kind line.mode h.mode))
-    ∙ ap (λ date. mark ∷ 32 ∷ kind_letter line.kind ∷ mode_letters line.mode ++ 32 ∷ spaces (widths.links - length (decimal line.links)) ++ decimal line.links ++ 32 ∷ spaces 0 ++ line.owner
+      ∙ ap (λ date. mark ∷ 32 ∷ kind_letter line.kind ∷ mode_letters line.mode ++ 32 ∷ spaces (widths.links - length (decimal line.links)) ++ decimal line.links ++ 32 ∷ spaces 0 ++ line.owner
       ++ 32 ∷ spaces (widths.owner - length line.owner) ++ line.group ++ 32 ∷ spaces (widths.group - length line.group + (widths.size - length (decimal line.size))) ++ decimal line.size
       ++ 32 ∷ date ++ 32 ∷ names_text line) (sym (minute_text-shown line.minute));
   mark_low = low;

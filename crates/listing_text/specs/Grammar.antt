@@ -31,9 +31,9 @@ pub record IsLineText (mark : ℕ) (line : Line) (text : List ℕ) : Type 0 wher
   pub before_size : ℕ
   pub names : List ℕ
   pub is : text ≡ mark ∷ 32 ∷ kind_letter line.kind ∷ mode_letters line.mode
-    ++ 32 ∷ spaces before_links ++ decimal line.links ++ 32 ∷ spaces before_owner ++ line.owner
-    ++ 32 ∷ spaces before_group ++ line.group ++ 32 ∷ spaces before_size ++ decimal line.size
-    ++ 32 ∷ minute_text line.minute ++ 32 ∷ names
+      ++ 32 ∷ spaces before_links ++ decimal line.links ++ 32 ∷ spaces before_owner ++ line.owner
+      ++ 32 ∷ spaces before_group ++ line.group ++ 32 ∷ spaces before_size ++ decimal line.size
+      ++ 32 ∷ minute_text line.minute ++ 32 ∷ names
   pub mark_low : 32 ≤ mark
   pub mark_high : mark ≤ 126
   pub mode : IsModeOf line.kind line.mode
