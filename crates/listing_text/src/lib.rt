@@ -18,6 +18,7 @@ mod writing;
 
 pub use dates::minute_of;
 pub use faults::{Field, LineFault};
+pub use laws::{dates_come_back, lines_are_the_grammar, lines_come_back};
 pub use line::{Line, Widths};
 pub use ordering::order;
 pub use plain::{Plain, has_plain_bytes, read_plain};
