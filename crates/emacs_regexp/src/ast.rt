@@ -10,7 +10,6 @@ pub struct Ast {
 
 impl Model for Ast {
     ghost use Rattle.emacs_regexp.specs.Trees.{Tree, tree_of};
-
     ghost use Rattle.emacs_regexp.specs.TreeCode.{flat, unflat, unflat-flat};
     ghost use Rattle.emacs_regexp.specs.contracts.token.Token as token;
     ghost use Rattle.std.specs.Coded.{code_by, coded_list, coded_option};
@@ -23,11 +22,18 @@ impl Model for Ast {
 }
 
 impl Ast {
-    pub(crate) fn of_tokens(tokens: Vec<Token>) -> Self {
+    ghost use Rattle.std.specs.Prelude.{◌≡◌};
+    ghost use Rattle.emacs_regexp.specs.Trees.{tree_of};
+
+    pub(crate) fn of_tokens(tokens: Vec<Token>) -> Self
+        ensures { result ≡ tree_of tokens.items }
+    {
         Ast { tokens }
     }
 
-    pub(crate) fn tokens(&self) -> &[Token] {
+    pub(crate) fn tokens(&self) -> &[Token]
+        ensures tree { tree_of result.now ≡ self.now }
+    {
         self.tokens.as_slice()
     }
 }
