@@ -1,3 +1,5 @@
+pub mod FollowLemmas
 pub mod PlaceLemmas
-pub mod SetLemmas
 pub mod ReadLemmas
+pub mod SetLemmas
+pub mod TreeLemmas

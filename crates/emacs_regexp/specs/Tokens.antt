@@ -94,7 +94,7 @@ token_of before at c rest =
     else if c == 46 then Ok (one Any, 0)
     else if c == 94 && is_start before then Ok (one LineBegin, 0)
     else if c == 36 && is_end rest then Ok (one LineEnd, 0)
-    else if is_repeat c && is_item before then Ok (repeat_of c rest)
+    else if is_item before && is_repeat c then Ok (repeat_of c rest)
     else Ok (one (Char c), 0)
 
 -- what stands before the place behind a token
