@@ -18,7 +18,7 @@ impl Model for Backwards {
 }
 
 impl Backwards {
-    ghost use Rattle.std.specs.Prelude.{◌≡◌, ◌∷◌, [], IfOk, OnOk, encode_utf8_all};
+    ghost use Rattle.std.specs.Prelude.{◌≡◌, ◌∷◌, ◌++◌, [], IfOk, OnOk, encode_utf8_all};
 
     pub(crate) fn new(alloc: Global) -> Self
         ensures { result ≡ [] }
@@ -36,13 +36,27 @@ impl Backwards {
         Ok(())
     }
 
+    // Puts a piece of ASCII in front.
+    pub(crate) fn put_piece(&mut self, piece: &[u8]) -> Result<(), Memory>
+        ensures { OnOk result (self.new ≡ piece.now ++ self.old) }
+    {
+        let mut rest = piece;
+        while let Some((byte, before)) = rest.split_last() {
+            self.put(char::from(*byte))?;
+            rest = before;
+        }
+        Ok(())
+    }
+
     // The text.
     pub(crate) fn text(&self, alloc: Global) -> Result<Text, Memory>
         ensures { IfOk result (λ t. t ≡ encode_utf8_all self.now) }
     {
         let mut text = String::new(alloc);
-        for c in self.characters.iter().rev() {
+        let mut rest = self.characters.as_slice();
+        while let Some((c, before)) = rest.split_last() {
             text.push(*c)?;
+            rest = before;
         }
         Ok(Text::from_string(text))
     }
