@@ -1,5 +1,5 @@
 -- How many groups have a number.
-use Rattle.std.proofs.Common.{◌≡◌, ℕ, ◌+◌, Bool, true, false, List, [], ◌∷◌, ◌++◌, refl, ap, sym, ◌∙◌, arith, count_by, if◌then◌else◌}
+use Rattle.std.proofs.Common.{◌≡◌, ◌+◌, true, false, List, [], ◌∷◌, ◌++◌, refl, arith, count_by, if◌then◌else◌}
 use Rattle.std.proofs.lemmas.List.Sums.{sum_by-append}
 use Rattle.emacs_regexp.specs.declared.token.Token.{Token}
 use Rattle.emacs_regexp.specs.declared.token.Token.TheVariants.{Open, Close, Or, Repeat}

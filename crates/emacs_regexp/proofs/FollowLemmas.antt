@@ -1,7 +1,7 @@
 -- The tokens of a text stand in lawful places.
 use Rattle.std.specs.Str.{chars}
 use Rattle.std.specs.Prelude.{◌↔◌}
-use Rattle.std.proofs.Common.{◌≡◌, subst, ◌<◌, ℕ, zero, suc, ◌+◌, ◌-◌, ◌==◌, Bool, true, false, List, [], ◌∷◌, Option, Some, None, refl, ap, sym, ◌∙◌, arith, Result, Ok, Err, if◌then◌else◌, ◌&&◌, drop, length}
+use Rattle.std.proofs.Common.{◌≡◌, subst, ◌<◌, ℕ, zero, suc, ◌+◌, ◌-◌, ◌==◌, Bool, true, false, List, [], ◌∷◌, refl, ap, sym, ◌∙◌, arith, Result, Ok, Err, if◌then◌else◌, ◌&&◌, drop}
 use Rattle.emacs_regexp.specs.declared.fault.RegexpFault.{RegexpFault}
 use Rattle.emacs_regexp.specs.declared.lexing.Before.{Before}
 use Rattle.emacs_regexp.specs.declared.lexing.Before.TheVariants.{Start, Caret, Item}

@@ -1,5 +1,5 @@
 -- Reading tokens, one after another.
-use Rattle.std.proofs.Common.{◌≡◌, ◌≤◌, ◌<◌, ℕ, zero, suc, ◌+◌, List, [], ◌∷◌, ◌++◌, length, drop, refl, ap, sym, ◌∙◌, arith, append_assoc, Result, Ok, Err}
+use Rattle.std.proofs.Common.{◌≡◌, ◌≤◌, ℕ, zero, suc, ◌+◌, List, [], ◌∷◌, ◌++◌, length, drop, refl, ap, sym, ◌∙◌, arith, append_assoc, Result, Ok, Err}
 use Rattle.std.proofs.Common.{inl, inr}
 use Rattle.dired_text.specs.Answers.{IsOrMemory}
 use Rattle.emacs_regexp.specs.declared.fault.RegexpFault.{RegexpFault}
@@ -7,7 +7,7 @@ use Rattle.emacs_regexp.specs.declared.lexing.Before.{Before}
 use Rattle.emacs_regexp.specs.declared.reading.Nesting.{Nesting}
 use Rattle.emacs_regexp.specs.declared.token.Token.{Token}
 use Rattle.emacs_regexp.specs.Reading.{tokens_from, then_token, then_nested, with_token, nesting_behind}
-use Rattle.emacs_regexp.specs.Tokens.{Read, token_of, before_behind}
+use Rattle.emacs_regexp.specs.Tokens.{token_of, before_behind}
 
 -- these tokens in front of others
 abbrev pub behind_tokens : List Token → Result (List Token) RegexpFault → Result (List Token) RegexpFault

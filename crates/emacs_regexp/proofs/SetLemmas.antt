@@ -1,5 +1,5 @@
 -- Reading the members of a set, one after another.
-use Rattle.std.proofs.Common.{◌≡◌, ◌≤◌, ◌<◌, ℕ, zero, suc, ◌+◌, Bool, true, false, List, [], ◌∷◌, ◌++◌, length, drop, refl, ap, sym, ◌∙◌, arith, append_assoc, Result, Ok, Err, Option, Some}
+use Rattle.std.proofs.Common.{◌≡◌, ◌≤◌, ◌<◌, ℕ, zero, suc, ◌+◌, Bool, false, List, [], ◌∷◌, ◌++◌, length, drop, refl, ap, ◌∙◌, arith, append_assoc, Result, Ok, Err, Some}
 use Rattle.emacs_regexp.specs.declared.fault.RegexpFault.{RegexpFault}
 use Rattle.emacs_regexp.specs.declared.token.Member.{Member}
 use Rattle.emacs_regexp.specs.Sets.{members_from, member_of, with_member, then_member}

@@ -1,11 +1,11 @@
 -- Spelling from the last token on spells the tree.
-use Rattle.std.proofs.Common.{◌≡◌, ◌≢◌, ℕ, zero, suc, ◌+◌, Bool, List, [], ◌∷◌, ◌++◌, refl, ap, sym, ◌∙◌, arith, append_assoc, length}
+use Rattle.std.proofs.Common.{◌≡◌, ℕ, zero, suc, ◌+◌, List, [], ◌∷◌, ◌++◌, refl, ap, sym, ◌∙◌, arith, append_assoc, length}
 use Rattle.std.specs.Prelude.{codes}
 use Rattle.std.proofs.lemmas.List.{append-nil}
 use Rattle.emacs_regexp.specs.declared.token.Token.{Token}
-use Rattle.emacs_regexp.specs.declared.token.Token.TheVariants.{Atom as one, Repeat, Open, Close, Or}
+use Rattle.emacs_regexp.specs.declared.token.Token.TheVariants.{Repeat, Open, Close, Or}
 use Rattle.emacs_regexp.specs.Backwards.{State, with_token, fronts}
-use Rattle.emacs_regexp.specs.Spelling.{spelled, spelled_quantifier, open_text}
+use Rattle.emacs_regexp.specs.Spelling.{spelled, spelled_quantifier}
 use Rattle.emacs_regexp.specs.Trees.{Tree, Empty, One, Then, Either, Repeated, Group, Sort, Item, Sequence, Regexp, IsTree, Writes, tokens_of}
 
 abbrev pub none_spelled : State

@@ -6,7 +6,6 @@ use Rattle.emacs_regexp.specs.declared.fault.RegexpFault.{RegexpFault}
 use Rattle.emacs_regexp.specs.declared.fault.RegexpFault.TheVariants.{BadInterval, NotInProfile, TrailingBackslash}
 use Rattle.emacs_regexp.specs.declared.lexing.Before.{Before}
 use Rattle.emacs_regexp.specs.declared.lexing.Before.TheVariants.{Start, Caret, Item}
-use Rattle.emacs_regexp.specs.declared.token.Atom.{Atom}
 use Rattle.emacs_regexp.specs.declared.token.Atom.TheVariants.{Any, LineBegin, LineEnd, TextBegin, TextEnd, Char, Set, Word, NotWord, Boundary, NotBoundary}
 use Rattle.emacs_regexp.specs.declared.token.Member.{Member}
 use Rattle.emacs_regexp.specs.declared.token.Quantifier.{Quantifier}

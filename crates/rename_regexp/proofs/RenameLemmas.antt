@@ -1,10 +1,10 @@
 -- What captures say of the match.
-use Rattle.std.proofs.Common.{◌≡◌, ◌≤◌, ◌==◌, false, ℕ, zero, suc, List, [], ◌∷◌, ◌++◌, take, drop, flat_map, Option, Some, refl, ap, sym, ◌∙◌, arith}
+use Rattle.std.proofs.Common.{◌≡◌, ◌==◌, false, ℕ, zero, suc, List, [], ◌∷◌, ◌++◌, take, drop, flat_map, Some, refl, ap, ◌∙◌, arith}
 use Rattle.std.proofs.lemmas.Bool.{ne_eqb}
 use Rattle.regex.specs.Patterns.{Match, span}
 use Rattle.regex.specs.Replace.{bytes_of, group_bytes}
 use Rattle.regex.specs.Search.{group_span}
-use Rattle.regex.specs.Strings.{captures_haystack, captures_span, match_span, IsCapturesOf}
+use Rattle.regex.specs.Strings.{captures_span, match_span, IsCapturesOf}
 use Rattle.regex.specs.declared.string.captures.Captures.{Captures}
 use Rattle.rename_regexp.specs.declared.template.Piece.{Piece}
 use Rattle.rename_regexp.specs.declared.template.Piece.TheVariants.{Char, Whole, Group}

@@ -1,4 +1,3 @@
-use Rattle.std.proofs.Common.{◌∙◌, sym, ap}
 use Rattle.emacs_regexp.proofs.FollowLemmas.{read-writes}
 use Rattle.emacs_regexp.proofs.reading.read.Goals as goal
 

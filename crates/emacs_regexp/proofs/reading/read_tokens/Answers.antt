@@ -1,4 +1,4 @@
-use Rattle.std.proofs.Common.{◌≡◌, ◌≤◌, ◌+◌, ◌-◌, Ok, length, drop, ap, sym, ◌∙◌, arith, length-drop}
+use Rattle.std.proofs.Common.{◌≡◌, ◌≤◌, ◌+◌, ◌-◌, Ok, length, ap, sym, ◌∙◌, arith, length-drop}
 use Rattle.emacs_regexp.specs.Reading.{nesting_behind}
 use Rattle.emacs_regexp.specs.Tokens.{token_of}
 use Rattle.emacs_regexp.proofs.ReadLemmas.{behind-next, wanted}

@@ -1,4 +1,4 @@
-use Rattle.std.proofs.Common.{◌≡◌, ◌≤◌, ◌<◌, ◌+◌, ◌-◌, Ok, Some, length, drop, ap, sym, ◌∙◌, arith, length-drop}
+use Rattle.std.proofs.Common.{◌≡◌, ◌≤◌, ◌<◌, ◌+◌, ◌-◌, Ok, Some, length, ap, sym, ◌∙◌, arith, length-drop}
 use Rattle.emacs_regexp.specs.Sets.{member_of}
 use Rattle.emacs_regexp.proofs.SetLemmas.{front-next}
 use Rattle.emacs_regexp.proofs.sets.read_members.Goals as goal

@@ -1,4 +1,4 @@
-use Rattle.std.proofs.Common.{◌≡◌, ◌∷◌, [], ap, sym, ◌∙◌}
+use Rattle.std.proofs.Common.{◌∷◌, [], ap, sym, ◌∙◌}
 use Rattle.emacs_regexp.specs.Backwards.{state_of}
 use Rattle.emacs_regexp.proofs.SpellLemmas.{all_spelled, all_spelled-append, text-spelled}
 use Rattle.emacs_regexp.proofs.spelling.spell_backwards.Goals as goal

@@ -1,4 +1,4 @@
-use Rattle.std.proofs.Common.{◌≡◌, ◌++◌, encode_utf8, sym, ◌∙◌}
+use Rattle.std.proofs.Common.{◌≡◌, ◌++◌, encode_utf8, sym}
 use Rattle.rename_regexp.proofs.TemplateLemmas.{cut-char, cut-escape, refused-escape, refused-end}
 use Rattle.rename_regexp.proofs.reading.next_piece.Goals as goal
 

@@ -1,6 +1,6 @@
-use Rattle.std.proofs.Common.{◌≡◌, ◌+◌, ◌-◌, [], ◌∷◌, ◌++◌, length, ap, sym, ◌∙◌, arith, rules, inr, Ok}
+use Rattle.std.proofs.Common.{◌+◌, ◌-◌, length, ap, sym, ◌∙◌, arith, rules, inr, Ok}
 use Rattle.std.specs.Str.{chars}
-use Rattle.rename_regexp.specs.Templates.{template_of, pieces_from, Cuts}
+use Rattle.rename_regexp.specs.Templates.{pieces_from, Cuts}
 use Rattle.rename_regexp.proofs.TemplateLemmas.{behind_pieces, behind_one, read-all}
 use Rattle.rename_regexp.proofs.reading.read_to.Goals as goal
 

@@ -1,4 +1,4 @@
-use Rattle.std.proofs.Common.{◌≡◌, ap, sym, ◌∙◌, Some, option_map}
+use Rattle.std.proofs.Common.{ap, sym, ◌∙◌, Some, option_map}
 use Rattle.regex.specs.Patterns.{find_str}
 use Rattle.regex.specs.Strings.{match_span}
 use Rattle.rename_regexp.specs.Renames.{replaced_at, with_replaced}
