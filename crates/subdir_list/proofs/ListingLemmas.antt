@@ -1,5 +1,5 @@
 -- Directories and sections one by one.
-use Rattle.std.proofs.Common.{◌≡◌, ℕ, ◌+◌, ◌<◌, Bool, true, List, [], ◌∷◌, ◌++◌, length, take, drop, map, flat_map, get_or, Option, Some, None, refl, sym, ◌∙◌, ap, append_assoc, false, append-nil, codes}
+use Rattle.std.proofs.Common.{◌≡◌, ℕ, ◌+◌, ◌<◌, true, List, [], ◌∷◌, ◌++◌, length, drop, flat_map, get_or, Some, refl, sym, ◌∙◌, ap, append_assoc, false, append-nil, codes}
 use Rattle.std.specs.BTreeSet.{insert_key}
 use Rattle.std.specs.FinMap.{get}
 use Rattle.std.specs.List.{list_any}

@@ -3,7 +3,7 @@ use Rattle.std.proofs.Math.Seq.{take-suc}
 use Rattle.dired_text.specs.Paths.{Names}
 use Rattle.tree_core.specs.declared.meta.Meta.{Meta}
 use Rattle.tree_core.specs.History.{History, current_tree}
-use Rattle.subdir_list.specs.Listings.{AreSections, IsSection, listing_of}
+use Rattle.subdir_list.specs.Listings.{AreSections, IsSection}
 use Rattle.subdir_list.proofs.ListingLemmas.{sections_more, listing_more}
 use Rattle.subdir_list.proofs.sections.list_dirs.Goals as goal
 

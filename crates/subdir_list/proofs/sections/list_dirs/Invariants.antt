@@ -1,4 +1,4 @@
-use Rattle.std.proofs.Common.{◌≡◌, ◌++◌, List, ℕ, take, codes}
+use Rattle.std.proofs.Common.{◌≡◌, List, ℕ, take}
 use Rattle.tree_core.specs.History.{current_tree}
 use Rattle.subdir_list.specs.Listings.{AreSections, listing_of}
 use Rattle.subdir_list.proofs.sections.list_dirs.Given as goal
