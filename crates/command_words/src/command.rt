@@ -10,7 +10,10 @@ use std::marker::Model;
 #[derive(Debug, Drop)]
 pub enum Command {
     /// Print a listing: the section of the root and one of each of these directories.
-    List { switches: Switches, dirs: Paths },
+    List {
+        switches: Switches,
+        dirs: Paths,
+    },
     /// Carry out what AFTER, the edited listing, asks for against BEFORE, the listing as printed.
     Commit {
         /// Whether every file that an edit replaces is confirmed.

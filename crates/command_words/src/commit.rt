@@ -5,10 +5,11 @@ ghost use Rattle.clap.specs.Words.{app_of, rows_of, found_of};
 ghost use Rattle.command_words.specs.declared.command.WordsFault.TheVariants.{Memory as memory};
 ghost use Rattle.command_words.specs.Commands.{asked_by, commit_app, commit_by as commit_by_rows, paths_of, path_named};
 
+use crate::defining::{plain, with_named_flag, with_word, with_words};
 use crate::matching::{all_values, first_value, is_set, matched};
 use crate::paths::path_named_by;
 use crate::{Command, Paths, WordsFault};
-use clap::{Arg, ArgAction, ArgMatches};
+use clap::ArgMatches;
 use dired_text::Text;
 use std::alloc::{AllocError, Global};
 
@@ -24,20 +25,10 @@ pub fn read_commit(alloc: Global, words: &[String]) -> Result<Command, WordsFaul
 fn definition<'a>(alloc: Global) -> Result<clap::Command<'a>, AllocError>
     ensures { IfOk result (λ c. app_of c ≡ commit_app) }
 {
-    let before = Arg::new(alloc, "BEFORE")
-        .required(true)
-        .action(ArgAction::Set);
-    let after = Arg::new(alloc, "AFTER")
-        .required(true)
-        .action(ArgAction::Set);
-    clap::Command::new(alloc, "commit")
-        .no_binary_name(true)
-        .disable_help_flag(true)
-        .disable_version_flag(true)
-        .arg(Arg::new(alloc, "all").long("all").action(ArgAction::SetTrue))?
-        .arg(before)?
-        .arg(after)?
-        .arg(Arg::new(alloc, "CONFIRMED").action(ArgAction::Append))
+    let command = with_named_flag(alloc, plain(alloc, "commit"), "all")?;
+    let command = with_word(alloc, command, "BEFORE")?;
+    let command = with_word(alloc, command, "AFTER")?;
+    with_words(alloc, command, "CONFIRMED")
 }
 
 // What the values of the command's arguments ask for.

@@ -3,6 +3,7 @@
 
 mod command;
 mod commit;
+mod defining;
 mod list;
 mod matching;
 mod paths;

@@ -1,14 +1,15 @@
 // The words of `list`.
 ghost use Rattle.std.specs.Prelude.{◌≡◌, false, map, string_bytes, IfOk};
 ghost use Rattle.dired_text.specs.Answers.{IsOrMemory};
-ghost use Rattle.clap.specs.Words.{app_of, rows_of, found_of, with_rule};
+ghost use Rattle.clap.specs.Words.{app_of, rows_of, found_of};
 ghost use Rattle.command_words.specs.declared.command.WordsFault.TheVariants.{Memory as memory};
-ghost use Rattle.command_words.specs.Commands.{asked_by, flag_rule, more_words, list_app, list_by as list_by_rows, switches_by as switches_by_rows, paths_of, dir_named};
+ghost use Rattle.command_words.specs.Commands.{asked_by, list_app, list_by as list_by_rows, switches_by as switches_by_rows, paths_of, dir_named};
 
+use crate::defining::{plain, with_flag, with_words};
 use crate::matching::{all_values, is_set, matched};
 use crate::paths::path_named_by;
 use crate::{Command, Paths, WordsFault};
-use clap::{Arg, ArgAction, ArgMatches};
+use clap::ArgMatches;
 use dired_text::Path;
 use listing_text::Switches;
 use std::alloc::{AllocError, Global};
@@ -25,40 +26,12 @@ pub fn read_list(alloc: Global, words: &[String]) -> Result<Command, WordsFault>
 fn definition<'a>(alloc: Global) -> Result<clap::Command<'a>, AllocError>
     ensures { IfOk result (λ c. app_of c ≡ list_app) }
 {
-    let command = clap::Command::new(alloc, "list")
-        .no_binary_name(true)
-        .disable_help_flag(true)
-        .disable_version_flag(true);
-    let command = with_flag(alloc, command, "all", 'A')?;
+    let command = with_flag(alloc, plain(alloc, "list"), "all", 'A')?;
     let command = with_flag(alloc, command, "long", 'l')?;
     let command = with_flag(alloc, command, "time", 't')?;
     let command = with_flag(alloc, command, "size", 'S')?;
     let command = with_flag(alloc, command, "reverse", 'r')?;
     with_words(alloc, command, "DIR")
-}
-
-// A command that takes any number of words besides.
-fn with_words<'a>(
-    alloc: Global,
-    command: clap::Command<'a>,
-    id: &'a str,
-) -> Result<clap::Command<'a>, AllocError>
-    ensures { IfOk result (λ c. app_of c ≡ with_rule (app_of command.entry) (more_words id.now)) }
-{
-    command.arg(Arg::new(alloc, id).action(ArgAction::Append))
-}
-
-// A command with one more flag, of one letter.
-fn with_flag<'a>(
-    alloc: Global,
-    command: clap::Command<'a>,
-    id: &'a str,
-    letter: char,
-) -> Result<clap::Command<'a>, AllocError>
-    ensures { IfOk result (λ c. app_of c ≡ with_rule (app_of command.entry) (flag_rule id.now letter)) }
-{
-    let flag = Arg::new(alloc, id).short(letter).action(ArgAction::SetTrue);
-    command.arg(flag)
 }
 
 // What the values of the command's arguments ask for.

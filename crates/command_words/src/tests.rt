@@ -11,12 +11,14 @@ fn shown(alloc: Global, text: &str) -> Result<String, Fail> {
         words.push(String::from_str(alloc, word)?)?;
     }
     match read_words(alloc, &words) {
-        Ok(Command::Commit {
-            all,
-            before,
-            after,
-            confirmed,
-        }) => {
+        Ok(
+            Command::Commit {
+                all,
+                before,
+                after,
+                confirmed,
+            },
+        ) => {
             let mut line = format!(in alloc; "{} to {}", before.as_str(), after.as_str())?;
             if all {
                 line.push_str(" all")?;

@@ -1,13 +1,12 @@
 use Rattle.std.proofs.Common.{◌≡◌, ◌∙◌, ap, rules, codes}
 use Rattle.std.proofs.lemmas.Result.{IfOk-weaker}
 use Rattle.clap.specs.Words.{App, app_of, with_rule}
-use Rattle.command_words.specs.Commands.{list_app, plain_app, flag_rule, more_words}
+use Rattle.command_words.specs.Commands.{list_app, flag_rule, more_words}
 use Rattle.command_words.proofs.list.definition.Goals as goal
 
 pub returns : goal.returns
 returns c =
-    let plain : app_of c.disable_version_flag-command.result ≡ plain_app (codes "list") = search rules in
-    let one = c.in_ok-command.ensures ∙ ap (λ (a : App). with_rule a (flag_rule (codes "all") 65)) plain in
+    let one = c.in_ok-command.ensures ∙ ap (λ (a : App). with_rule a (flag_rule (codes "all") 65)) c.plain.ensures in
     let two = c.in_ok-command-2.ensures ∙ ap (λ (a : App). with_rule a (flag_rule (codes "long") 108)) one in
     let three = c.in_ok-command-3.ensures ∙ ap (λ (a : App). with_rule a (flag_rule (codes "time") 116)) two in
     let four = c.in_ok-command-4.ensures ∙ ap (λ (a : App). with_rule a (flag_rule (codes "size") 83)) three in

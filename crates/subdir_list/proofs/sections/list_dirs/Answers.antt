@@ -20,17 +20,16 @@ loop-path-preserved g c =
     let text : c.extend_from_slice-in-loop-path.new.self.items ≡ (c.loop-path.text.items ++ 10 ∷ []) ++ section = search rules in
     record {
       sections = λ tells.
-      let t = current_tree (T.history c.args.tree.now) in
-      let fields = T.fields c.args.tree.now in
-      let before = c.loop-path.invariant.sections tells in
-      let here : IsSection c.args.switches.now t fields p section =
-      subst (λ (h : History). IsSection c.args.switches.now (current_tree h) fields p section) (c.loop-path.invariant.history tells)
-      (subst (λ (f : Names → Meta). IsSection c.args.switches.now (current_tree (T.history c.loop-path.tree)) f p section) (c.loop-path.invariant.fields tells) (c.in_ok-section.ensures.section tells)) in
-      (
-        before.0 ++ section ∷ [],
-        subst (λ (ps : List Names). AreSections c.args.switches.now t fields ps (before.0 ++ section ∷ [])) (sym first) (sections_more c.args.switches.now t fields (take i paths) before.0 p section before.1 here),
-        text ∙ ap (λ (l : List ℕ). (l ++ 10 ∷ []) ++ section) before.2 ∙ sym (listing_more before.0 section),
-      );
+          let t = current_tree (T.history c.args.tree.now) in
+          let fields = T.fields c.args.tree.now in
+          let before = c.loop-path.invariant.sections tells in
+          let here : IsSection c.args.switches.now t fields p section =
+          subst (λ (h : History). IsSection c.args.switches.now (current_tree h) fields p section) (c.loop-path.invariant.history tells)
+          (subst (λ (f : Names → Meta). IsSection c.args.switches.now (current_tree (T.history c.loop-path.tree)) f p section) (c.loop-path.invariant.fields tells) (c.in_ok-section.ensures.section tells)) in (
+            before.0 ++ section ∷ [],
+            subst (λ (ps : List Names). AreSections c.args.switches.now t fields ps (before.0 ++ section ∷ [])) (sym first) (sections_more c.args.switches.now t fields (take i paths) before.0 p section before.1 here),
+            text ∙ ap (λ (l : List ℕ). (l ++ 10 ∷ []) ++ section) before.2 ∙ sym (listing_more before.0 section),
+          );
       history = search rules;
       fields = search rules;
       found = search rules;

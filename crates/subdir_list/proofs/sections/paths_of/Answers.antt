@@ -22,7 +22,7 @@ loop-dir-preserved g c =
     record {
       paths = c.loop-dir.invariant.paths ∙ paths_more c.loop-dir.paths.keys dirs i d below c.dir-item.is ∙ ap (λ (ks : List Names). paths_with ks (drop (i + 1) dirs)) (sym keys);
       dirs = λ tells. subst (λ (ks : List Names). All (λ p. IsDir (current_tree (T.history c.args.tree.now)) p) ks) (sym keys)
-      (All-insert_key path_cmp d (λ p. IsDir (current_tree (T.history c.args.tree.now)) p) c.loop-dir.paths.keys (c.loop-dir.invariant.dirs tells) (is_dir tells));
+          (All-insert_key path_cmp d (λ p. IsDir (current_tree (T.history c.args.tree.now)) p) c.loop-dir.paths.keys (c.loop-dir.invariant.dirs tells) (is_dir tells));
       first = λ tells. c.loop-dir.invariant.first tells ∙ first_more (current_tree (T.history c.args.tree.now)) dirs i d below c.dir-item.is (is_dir tells);
       history = search rules;
       fields = search rules;
