@@ -3,20 +3,19 @@ use Rattle.std.proofs.Common.{◌≡◌, ◌⊎◌, inl, inr, ⊎_elim, ℕ, ◌
 use Rattle.std.proofs.lemmas.Bool.{cond-true, cond-false, le-ltb}
 use Rattle.std.specs.FinMap.{get}
 use Rattle.dired_text.specs.Counts.{raised, Stayed}
+use Rattle.dired_text.specs.Paths.{Names}
 use Rattle.tree_core.specs.declared.edit.Edit.{Edit}
 use Rattle.tree_core.specs.FileTree.{FileTree}
 use Rattle.tree_core.specs.Faults.{TreeHeld}
 use Rattle.tree_core.specs.declared.faults.Faults.{Faults}
-use Rattle.wdired_buffer.specs.declared.line.BufferLine.{BufferLine}
-use Rattle.wdired_buffer.specs.Edits.{edits_of}
 use Rattle.dired_cli.specs.declared.status.Status.{Status}
-use Rattle.dired_cli.specs.declared.status.Status.TheVariants.{Done, Usage, Memory, ReadFault, TreeFault, WriteFault, Missing, Faulty, Stale, TooLarge, NotBuilt}
+use Rattle.dired_cli.specs.declared.status.Status.TheVariants.{Done, Usage, Memory, ReadFault, TreeFault, WriteFault, Missing, BadBuffer, Faulty, Stale, TooLarge, NotBuilt}
 use Rattle.dired_cli.specs.Inputs.{Files, input_of, bytes_or_refusal, max_buffer_bytes}
-use Rattle.dired_cli.specs.Requests.{of_inputs, of_buffer, of_edits, only_change, is_in_root, path_or_root}
+use Rattle.dired_cli.specs.Requests.{of_inputs, of_buffer, of_edits, with_flagged, changed_to, only_name, only_change}
 use Rattle.dired_cli.specs.Reports.{Said}
-use Rattle.dired_cli.specs.Verdicts.{Verdict, status_of, is_file_of}
-use Rattle.dired_cli.specs.Runs.{Outside, Decides, verdict, of_request}
-use Rattle.dired_cli.specs.WellFormed.{IsAllowed, IsWellFormed}
+use Rattle.dired_cli.specs.Verdicts.{Verdict, status_of, is_as_shown, on_dirs}
+use Rattle.dired_cli.specs.Runs.{Outside, Decides, verdict, of_request, of_command}
+use Rattle.dired_cli.specs.WellFormed.{IsAllowed, CanCommit, CanList, IsWellFormed}
 
 within : (n m : ℕ) → n ≤ m → nat_lt m n ≡ false
 within n m le = le-ltb m n le
@@ -24,26 +23,34 @@ within n m le = le-ltb m n le
 held : (files : Files) (name bytes : List ℕ) → files name ≡ Some bytes → length bytes ≤ max_buffer_bytes → input_of files name ≡ Ok bytes
 held files name bytes is short = ap (bytes_or_refusal name) is ∙ cond-false _ _ _ (within (length bytes) max_buffer_bytes short)
 
--- nothing asked for, or one edit that is allowed
-done_by : (edits : List Edit) (t : FileTree) → (edits ≡ []) ⊎ ((edit : Edit) × (edits ≡ edit ∷ []) × IsAllowed edit t) → status_of (of_request (only_change edits) t) ≡ Done
-done_by edits t (inl none) = ap (λ es. status_of (of_request (only_change es) t)) none
-done_by edits t (inr (edit, one, allowed)) =
-    ap (λ es. status_of (of_request (only_change es) t)) one
-    ∙ ap (λ r. status_of (of_request r t)) (cond-true (is_in_root edit.source edit.to) _ _ allowed.in_root)
-    ∙ ap status_of (cond-true (is_file_of edit.was.mode (get t edit.source)) _ _ allowed.as_shown ∙ cond-false (is_some (get t (path_or_root edit.to))) _ _ (ap is_some allowed.free))
+-- one edit that is allowed
+change_done : (edit : Edit) (flagged : List Names) (t : FileTree) → IsAllowed edit t → status_of (of_request (with_flagged flagged (changed_to edit (only_name edit edit.to))) t) ≡ Done
+change_done edit flagged t allowed =
+    ap (λ to. status_of (of_request (with_flagged flagged (changed_to edit to)) t)) allowed.name_alone
+    ∙ ap status_of (cond-true (is_as_shown edit.was (get t edit.source)) _ _ allowed.as_shown ∙ cond-false (is_some (get t allowed.to)) _ _ (ap is_some allowed.free))
 
-asks_done : (lines : List BufferLine) (after : List ℕ) (t : FileTree) → (edits_of lines after ≡ Ok []) ⊎ ((edit : Edit) × (edits_of lines after ≡ Ok (edit ∷ [])) × IsAllowed edit t)
-    → status_of (of_request (of_edits (edits_of lines after)) t) ≡ Done
-asks_done lines after t (inl none) = ap (λ r. status_of (of_request (of_edits r) t)) none ∙ done_by [] t (inl refl)
-asks_done lines after t (inr (edit, one, allowed)) = ap (λ r. status_of (of_request (of_edits r) t)) one ∙ done_by (edit ∷ []) t (inr (edit, refl, allowed))
+-- nothing asked for, or one edit that is allowed
+done_by : (edits : List Edit) (flagged : List Names) (t : FileTree) → (edits ≡ []) ⊎ ((edit : Edit) × (edits ≡ edit ∷ []) × IsAllowed edit t) → status_of (of_request (with_flagged flagged (only_change edits)) t) ≡ Done
+done_by edits flagged t (inl none) = ap (λ es. status_of (of_request (with_flagged flagged (only_change es)) t)) none
+done_by edits flagged t (inr (edit, one, allowed)) = ap (λ es. status_of (of_request (with_flagged flagged (only_change es)) t)) one ∙ change_done edit flagged t allowed
+
+commit_done : (words : List (List ℕ)) (files : Files) (t : FileTree) → CanCommit words files t → status_of (verdict words files t) ≡ Done
+commit_done words files t w =
+    ap (λ c. status_of (of_command c files t)) w.words_are
+    ∙ ap (λ r. status_of (of_request (of_inputs w.before_name r (input_of files w.after_name)) t)) (held files w.before_name w.before w.before_held w.before_short)
+    ∙ ap (λ r. status_of (of_request (of_inputs w.before_name (Ok w.before) r) t)) (held files w.after_name w.after w.after_held w.after_short)
+    ∙ ap (λ r. status_of (of_request (of_buffer w.before_name r w.after) t)) w.form
+    ∙ ap (λ r. status_of (of_request (of_edits r) t)) w.edits
+    ∙ done_by w.asks.edits w.asks.emptied t w.allowed
+
+list_done : (words : List (List ℕ)) (files : Files) (t : FileTree) → CanList words t → status_of (verdict words files t) ≡ Done
+list_done words files t w =
+    ap (λ c. status_of (of_command c files t)) w.words_are
+    ∙ ap (λ other. status_of (on_dirs w.switches w.dirs other)) w.stand
 
 pub well_formed_done : (words : List (List ℕ)) (files : Files) (t : FileTree) → IsWellFormed words files t → status_of (verdict words files t) ≡ Done
-well_formed_done words files t w =
-    ap (λ ws. status_of (verdict ws files t)) w.words_are
-    ∙ ap (λ r. status_of (of_request (of_inputs r (input_of files w.after_name)) t)) (held files w.before_name w.before w.before_held w.before_short)
-    ∙ ap (λ r. status_of (of_request (of_inputs (Ok w.before) r) t)) (held files w.after_name w.after w.after_held w.after_short)
-    ∙ ap (λ r. status_of (of_request (of_buffer r w.after) t)) w.form
-    ∙ asks_done w.lines w.after t w.asks
+well_formed_done words files t (inl commit) = commit_done words files t commit
+well_formed_done words files t (inr list) = list_done words files t list
 
 -- a count that rose didn't stay
 not_raised : (before now : ℕ) → Stayed before now → now ≡ raised before → ⊥
@@ -57,6 +64,7 @@ decided_done v before now (ReadFault name) is trees reads decides = absurd (not_
 decided_done v before now (TreeFault first) is trees reads decides = absurd (not_raised before.tree_faults.count now.tree_faults.count trees (ap (λ (f : Faults). f.count) decides.1))
 decided_done v before now (WriteFault number) is trees reads decides = inl (decides.0 ∙ is)
 decided_done v before now (Missing name) is trees reads decides = inl (decides.0 ∙ is)
+decided_done v before now (BadBuffer name line cause) is trees reads decides = inl (decides.0 ∙ is)
 decided_done v before now (Faulty line cause) is trees reads decides = inl (decides.0 ∙ is)
 decided_done v before now (Stale line) is trees reads decides = inl (decides.0 ∙ is)
 decided_done v before now (TooLarge what number) is trees reads decides = inl (decides.0 ∙ is)

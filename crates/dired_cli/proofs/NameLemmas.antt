@@ -1,19 +1,20 @@
--- When a file in the root can get a new name there.
-use Rattle.std.proofs.Common.{◌≡◌, ℕ, ◌+◌, ◌-◌, Bool, true, false, [], ◌∷◌, ◌++◌, length, take, refl, sym, ◌∙◌, ap, subst, arith, length-append, Option, Some, None, is_some, IsTrue, if◌then◌else◌}
+-- When an entry can get another name in its directory.
+use Rattle.std.proofs.Common.{◌≡◌, ◌≢◌, ℕ, ◌+◌, ◌-◌, Bool, true, false, ◌&&◌, List, [], ◌∷◌, ◌++◌, length, take, refl, sym, ◌∙◌, ap, subst, arith, length-append, Option, Some, None, is_some, IsTrue, if◌then◌else◌}
 use Rattle.std.proofs.lemmas.List.{append-nil}
 use Rattle.std.specs.FinMap.{get}
-use Rattle.dired_text.specs.Paths.{Names, rest_below}
-use Rattle.dired_text.proofs.PathLemmas.{rest_below-some}
+use Rattle.dired_text.specs.Paths.{Names, rest_below, parent}
+use Rattle.dired_text.proofs.PathLemmas.{rest_below-some, parent-push}
+use Rattle.tree_core.specs.declared.edit.Shown.{Shown}
 use Rattle.tree_core.specs.declared.node.Node.{Node}
-use Rattle.tree_core.specs.FileTree.{FileTree, IsTree, IsDir, CanRename}
+use Rattle.tree_core.specs.FileTree.{FileTree, IsTree, IsDir, Stands, CanRename}
 use Rattle.tree_core.specs.History.{History, current_tree}
-use Rattle.dired_cli.specs.declared.commit.NameChange.{NameChange}
+use Rattle.dired_cli.specs.declared.requests.NameChange.{NameChange}
 use Rattle.dired_cli.specs.declared.status.Status.{Status}
-use Rattle.dired_cli.specs.Verdicts.{Refuses, Renames, on_tree, is_file_of}
+use Rattle.dired_cli.specs.Verdicts.{Refuses, Renames, CanBeAsked, on_change, is_as_shown}
 
-file_stands : (o : Option Node) (mode : ℕ) → is_file_of mode o ≡ true → IsTrue (is_some o)
-file_stands None mode e = cc
-file_stands (Some node) mode e = refl
+shown_stands : (was : Shown) (o : Option Node) → is_as_shown was o ≡ true → IsTrue (is_some o)
+shown_stands was None e = cc
+shown_stands was (Some node) e = refl
 
 none_if : (o : Option Node) → is_some o ≡ false → o ≡ None
 none_if None e = refl
@@ -23,12 +24,36 @@ no_names : (p : Names) → length p ≡ 0 → p ≡ []
 no_names [] e = refl
 no_names (x ∷ p) e = absurd (omega arith)
 
-can_name : (t : FileTree) (from to : Names) (mode : ℕ) → IsTree t → length from ≡ 1 → length to ≡ 1 → is_file_of mode (get t from) ≡ true → is_some (get t to) ≡ false → CanRename t from to
-can_name t from to mode tree from_one to_one file free = record {
-  stands = file_stands _ mode file;
-  not_root = λ root. absurd (let none : length from ≡ 0 = ap length root in omega arith);
+-- a path that isn't the root, as its parent and its name
+last_name : (p : Names) → p ≢ [] → (front : Names) × (last : List ℕ) × (p ≡ front ++ last ∷ [])
+last_name [] some = absurd (some refl)
+last_name (x ∷ []) some = ([], x, refl)
+last_name (x ∷ y ∷ p) some =
+    let l = last_name (y ∷ p) (λ none. cc) in
+    (x ∷ l.0, l.1, ap (λ (q : Names). x ∷ q) l.2)
+
+-- the parent of what stands is a directory
+parent_dir : (t : FileTree) (p : Names) → IsTree t → p ≢ [] → Stands t p → IsDir t (parent p)
+parent_dir t p tree some stands =
+    let l = last_name p some in
+    subst (IsDir t) (sym (ap parent l.2 ∙ parent-push l.0 l.1)) (tree.parents l.0 l.1 (subst (Stands t) l.2 stands))
+
+same_length : (from to : Names) → from ≢ [] → to ≢ [] → parent to ≡ parent from → length to ≡ length from
+same_length from to f n same =
+    let a = last_name from f in
+    let b = last_name to n in
+    let fronts : b.0 ≡ a.0 = sym (ap parent b.2 ∙ parent-push b.0 b.1) ∙ same ∙ ap parent a.2 ∙ parent-push a.0 a.1 in
+    let long_a : length from ≡ length a.0 + 1 = ap length a.2 ∙ length-append a.0 (a.1 ∷ []) in
+    let long_b : length to ≡ length b.0 + 1 = ap length b.2 ∙ length-append b.0 (b.1 ∷ []) in
+    let front : length b.0 ≡ length a.0 = ap length fronts in
+    omega arith
+
+can_name : (t : FileTree) (from to : Names) → IsTree t → from ≢ [] → to ≢ [] → parent to ≡ parent from → Stands t from → is_some (get t to) ≡ false → CanRename t from to
+can_name t from to tree some_from some_to same stands free = record {
+  stands = stands;
+  not_root = some_from;
   absent = none_if _ free;
-  parent_is_dir = subst (IsDir t) (sym (ap (λ n. take n to) (let zero : length to - 1 ≡ 0 = omega arith in zero))) tree.root;
+  parent_is_dir = subst (IsDir t) (sym same) (parent_dir t from tree some_from stands);
   apart = apart (rest_below from to) refl;
 }
   where
@@ -36,22 +61,23 @@ can_name t from to mode tree from_one to_one file free = record {
     apart None e = refl
     apart (Some r) e =
         let to_is : to ≡ from ++ r = rest_below-some from to r e in
+        let equal : length to ≡ length from = same_length from to some_from some_to same in
         let short : length r ≡ 0 = (let long : length to ≡ length from + length r = ap length to_is ∙ length-append from r in omega arith) in
-        let same : to ≡ from = to_is ∙ ap (λ (l : Names). from ++ l) (no_names r short) ∙ append-nil from in
-        let stands : is_some (get t to) ≡ true = ap (λ (p : Names). is_some (get t p)) same ∙ file_stands _ mode file in
-        absurd (let both : true ≡ false = sym stands ∙ free in cc)
+        let there : to ≡ from = to_is ∙ ap (λ (l : Names). from ++ l) (no_names r short) ∙ append-nil from in
+        let taken : is_some (get t to) ≡ true = ap (λ (p : Names). is_some (get t p)) there ∙ stands in
+        absurd (let both : true ≡ false = sym taken ∙ free in cc)
 
 -- what a verdict that renames says of its two tests
-tests_of : (shown taken : Bool) (x y : Status) (from to p q : Names) → (if shown then (if taken then Refuses x else Renames from to) else Refuses y) ≡ Renames p q → (shown ≡ true) × (taken ≡ false)
-tests_of true true x y from to p q e = cc
-tests_of true false x y from to p q e = (refl, refl)
-tests_of false taken x y from to p q e = cc
+tests_of : (shown taken : Bool) (x y : Status) (from to p q : Names) (flagged more : List Names) → (if shown then (if taken then Refuses x else Renames from to flagged) else Refuses y) ≡ Renames p q more → (shown ≡ true) × (taken ≡ false)
+tests_of true true x y from to p q flagged more e = cc
+tests_of true false x y from to p q flagged more e = (refl, refl)
+tests_of false taken x y from to p q flagged more e = cc
 
 -- Where the tree allows the change, and looks have changed nothing since, the rename can be made.
-pub can_change : (old now : History) (change : NameChange) → now ≡ old → IsTree (current_tree now) → length change.source ≡ 1 → length change.to ≡ 1
-    → on_tree (Some change) (current_tree old) ≡ Renames change.source change.to → CanRename (current_tree now) change.source change.to
-can_change old now change same tree source_one to_one allowed =
-    let tests = tests_of (is_file_of change.mode (get (current_tree old) change.source)) (is_some (get (current_tree old) change.to)) _ _ _ _ _ _ allowed in
-    can_name (current_tree now) change.source change.to change.mode tree source_one to_one
-    (ap (λ h. is_file_of change.mode (get (current_tree h) change.source)) same ∙ tests.0)
+pub can_change : (old now : History) (change : NameChange) → now ≡ old → IsTree (current_tree now) → CanBeAsked (Some change)
+    → ((flagged : List Names) → on_change (Some change) flagged (current_tree old) ≡ Renames change.source change.to flagged) → CanRename (current_tree now) change.source change.to
+can_change old now change same tree asked allowed =
+    let tests = tests_of (is_as_shown change.was (get (current_tree old) change.source)) (is_some (get (current_tree old) change.to)) _ _ _ _ _ _ _ _ (allowed []) in
+    can_name (current_tree now) change.source change.to tree asked.0 asked.1 asked.2
+    (shown_stands change.was _ (ap (λ h. is_as_shown change.was (get (current_tree h) change.source)) same ∙ tests.0))
     (ap (λ h. is_some (get (current_tree h) change.to)) same ∙ tests.1)

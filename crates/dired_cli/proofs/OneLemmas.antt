@@ -4,7 +4,7 @@ use Rattle.dired_text.specs.declared.text.Failed.{Failed}
 use Rattle.dired_text.specs.Paths.{Names}
 use Rattle.tree_core.specs.declared.node.Change.TheVariants.{Rename, Sync}
 use Rattle.tree_core.specs.FileTree.{FileTree, renamed}
-use Rattle.tree_core.specs.History.{History, Then, current_tree, IsDurable, LeavesOnly, Changes}
+use Rattle.tree_core.specs.History.{History, Then, current_tree, IsDurable, LeavesOnly, Performs}
 use Rattle.tree_core.proofs.Moments.{started, started-durable, goes_on, goes_on-sync, durable-sync, crash_state-first, after_call, after_ok}
 use Rattle.dired_cli.specs.Verdicts.{IsOldOrEdited}
 
@@ -27,20 +27,20 @@ module _ (s : History) (from to : Names) (durable : IsDurable s) where
   m3 : LeavesOnly s (Then renaming Sync) P
   m3 = goes_on s renaming Sync P m2 (λ c left. inr (durable-sync renaming c left))
 
-  pub at_first : {T : Type 0} (one : History) (r : Result T Failed) → Changes Sync s one r → LeavesOnly s one P
+  pub at_first : {T : Type 0} (one : History) (r : Result T Failed) → Performs Sync s one r → LeavesOnly s one P
   at_first one r first = after_call Sync s one r (λ n. LeavesOnly s n P) first m0 m1
 
-  pub at_second : {T : Type 0} (one two : History) (r : Result T Failed) → one ≡ Then s Sync → Changes (Rename from to) one two r → LeavesOnly s two P
-  at_second one two r is second = after_call (Rename from to) (Then s Sync) two r (λ n. LeavesOnly s n P) (subst (λ m. Changes (Rename from to) m two r) is second) m1 m2
+  pub at_second : {T : Type 0} (one two : History) (r : Result T Failed) → one ≡ Then s Sync → Performs (Rename from to) one two r → LeavesOnly s two P
+  at_second one two r is second = after_call (Rename from to) (Then s Sync) two r (λ n. LeavesOnly s n P) (subst (λ m. Performs (Rename from to) m two r) is second) m1 m2
 
-  pub at_third : {T : Type 0} (two three : History) (r : Result T Failed) → two ≡ renaming → Changes Sync two three r → LeavesOnly s three P
-  at_third two three r is third = after_call Sync renaming three r (λ n. LeavesOnly s n P) (subst (λ m. Changes Sync m three r) is third) m2 m3
+  pub at_third : {T : Type 0} (two three : History) (r : Result T Failed) → two ≡ renaming → Performs Sync two three r → LeavesOnly s three P
+  at_third two three r is third = after_call Sync renaming three r (λ n. LeavesOnly s n P) (subst (λ m. Performs Sync m three r) is third) m2 m3
 
-pub durable_ok : {T : Type 0} (two three : History) (r3 : Result T Failed) → is_err r3 ≡ false → Changes Sync two three r3 → IsDurable three
+pub durable_ok : {T : Type 0} (two three : History) (r3 : Result T Failed) → is_err r3 ≡ false → Performs Sync two three r3 → IsDurable three
 durable_ok two three r3 ok is = subst IsDurable (sym (after_ok Sync two three r3 ok is)) (durable-sync two)
 
 -- one sync alone
-pub sync_any : {T : Type 0} (s new : History) (r : Result T Failed) (P : FileTree → Type 0) → IsDurable s → P (current_tree s) → Changes Sync s new r → LeavesOnly s new P
+pub sync_any : {T : Type 0} (s new : History) (r : Result T Failed) (P : FileTree → Type 0) → IsDurable s → P (current_tree s) → Performs Sync s new r → LeavesOnly s new P
 sync_any s new r P durable here call =
     let start = started-durable s P durable here in
     after_call Sync s new r (λ n. LeavesOnly s n P) call start (goes_on-sync s s P start here)

@@ -1,15 +1,17 @@
 -- From the end of a command to the answer of a run.
 use Rattle.std.proofs.Common.{◌≡◌, inl, inr, ℕ, true, false, List, refl, sym, ◌∙◌, ap, subst, Option, Some, Result, Ok, Err, IfOk, IfErr, MatchResult}
 use Rattle.dired_text.specs.Counts.{raised}
+use Rattle.dired_text.specs.Paths.{Names}
+use Rattle.tree_core.specs.declared.meta.Meta.{Meta}
 use Rattle.tree_core.specs.FileTree.{FileTree}
 use Rattle.tree_core.specs.History.{current_tree, IsDurable}
 use Rattle.tree_core.specs.Faults.{with_fault}
 use Rattle.dired_cli.specs.declared.status.Status.{Status}
-use Rattle.dired_cli.specs.declared.status.Status.TheVariants.{Done, Usage, Memory, ReadFault, TreeFault, WriteFault, Missing, Faulty, Stale, TooLarge, NotBuilt}
+use Rattle.dired_cli.specs.declared.status.Status.TheVariants.{Done, Usage, Memory, ReadFault, TreeFault, WriteFault, Missing, BadBuffer, Faulty, Stale, TooLarge, NotBuilt}
 use Rattle.dired_cli.specs.Statuses.{number_of, text_of, has_fixed_text, ByCause, IsRefusal}
 use Rattle.dired_cli.specs.Reports.{Said, Reported}
 use Rattle.dired_cli.specs.Verdicts.{Verdict, Refuses, status_of, edited, FaultLeaves, IsDone}
-use Rattle.dired_cli.specs.Runs.{Outside, SameFaults, Decides, line_of}
+use Rattle.dired_cli.specs.Runs.{Outside, SameFaults, Decides, IsText}
 
 module _ (v : Verdict) (before now : Outside) (ended : Result (List ℕ) Status) where
   abbrev Old : FileTree
@@ -46,6 +48,7 @@ module _ (v : Verdict) (before now : Outside) (ended : Result (List ℕ) Status)
   refusal_decides (TreeFault first) durable is refused trees shelves = (refused, trees, shelves)
   refusal_decides (WriteFault held) durable no_way refused trees shelves = absurd no_way
   refusal_decides (Missing name) durable is refused trees shelves = by_verdict (Missing name) durable refused.0 refused.1 (trees, shelves)
+  refusal_decides (BadBuffer name line cause) durable is refused trees shelves = by_verdict (BadBuffer name line cause) durable refused.0 refused.1 (trees, shelves)
   refusal_decides (Faulty line cause) durable is refused trees shelves = by_verdict (Faulty line cause) durable refused.0 refused.1 (trees, shelves)
   refusal_decides (Stale line) durable is refused trees shelves = by_verdict (Stale line) durable refused.0 refused.1 (trees, shelves)
   refusal_decides (TooLarge what number) durable is refused trees shelves = by_verdict (TooLarge what number) durable refused.0 refused.1 (trees, shelves)
@@ -60,41 +63,43 @@ module _ (v : Verdict) (before now : Outside) (ended : Result (List ℕ) Status)
   short_decides (TreeFault first) is made refused trees = cc
   short_decides (WriteFault held) is made refused trees = cc
   short_decides (Missing name) is made refused trees = (refused.1, trees)
+  short_decides (BadBuffer name line cause) is made refused trees = (refused.1, trees)
   short_decides (Faulty line cause) is made refused trees = (refused.1, trees)
   short_decides (Stale line) is made refused trees = (refused.1, trees)
   short_decides (TooLarge what number) is made refused trees = (refused.1, trees)
   short_decides (NotBuilt line) is made refused trees = (refused.1, trees)
 
-refusal_line : (v : Verdict) (status : Status) → IsRefusal status → text_of status ≡ line_of v status
-refusal_line v Done no_way = absurd no_way
-refusal_line v Usage is = refl
-refusal_line v Memory is = refl
-refusal_line v (ReadFault name) is = refl
-refusal_line v (TreeFault first) is = refl
-refusal_line v (WriteFault held) is = refl
-refusal_line v (Missing name) is = refl
-refusal_line v (Faulty line cause) is = refl
-refusal_line v (Stale line) is = refl
-refusal_line v (TooLarge what number) is = refl
-refusal_line v (NotBuilt line) is = refl
+refusal_text : (v : Verdict) (t : FileTree) (fields : Names → Meta) (status : Status) → IsRefusal status → IsText v t fields status (text_of status)
+refusal_text v t fields Done no_way = absurd no_way
+refusal_text v t fields Usage is = refl
+refusal_text v t fields Memory is = refl
+refusal_text v t fields (ReadFault name) is = refl
+refusal_text v t fields (TreeFault first) is = refl
+refusal_text v t fields (WriteFault held) is = refl
+refusal_text v t fields (Missing name) is = refl
+refusal_text v t fields (BadBuffer name line cause) is = refl
+refusal_text v t fields (Faulty line cause) is = refl
+refusal_text v t fields (Stale line) is = refl
+refusal_text v t fields (TooLarge what number) is = refl
+refusal_text v t fields (NotBuilt line) is = refl
 
 -- the end of a command, and what was said of it
 pub outcome_of : (v : Verdict) (before now : Outside) (Told : Type 0) (ended : Result (List ℕ) Status) (taken_before taken : List ℕ) (count_before count : ℕ) (result : Status)
     → IsDurable before.history
-    → IfOk ended (λ text. IsDone v (current_tree before.history) now.history text)
+    → IfOk ended (λ text. IsDone v (current_tree before.history) before.fields now.history text)
     → IfErr ended (Refused v before now ended)
     → MatchResult ended (λ _. now.tree_faults ≡ before.tree_faults) (TreeCount v before now ended)
     → MatchResult ended (λ _. now.read_faults ≡ before.read_faults) (ShelfCount v before now ended)
     → IfErr ended IsRefusal
     → Reported Told ended taken_before taken count_before count result
-    → (decided : Status) × (Decides v before now decided × Said Told decided (line_of v decided) taken_before taken count_before count result)
+    → (decided : Status) × (text : List ℕ) × (Decides v before now decided × IsText v (current_tree before.history) before.fields decided text × Said Told decided text taken_before taken count_before count result)
 outcome_of v before now Told (Ok text) tb t cb c result durable done refused trees shelves is (inl said) =
-    (Done, ((sym done.0, done.1, done.2, (trees, shelves)), subst (λ l. Said Told Done l tb t cb c result) done.3 said))
+    (Done, text, ((sym done.0, done.1, done.2, (trees, shelves)), done.3, said))
 outcome_of v before now Told (Ok text) tb t cb c result durable done refused trees shelves is (inr short) = absurd (let no_way : true ≡ false = short.0 in cc)
 outcome_of v before now Told (Err status) tb t cb c result durable done refused trees shelves is (inl said) =
-    (status, (refusal_decides v before now (Err status) status durable is refused trees shelves, subst (λ l. Said Told status l tb t cb c result) (refusal_line v status is) said))
+    (status, text_of status, (refusal_decides v before now (Err status) status durable is refused trees shelves, refusal_text v (current_tree before.history) before.fields status is, said))
 outcome_of v before now Told (Err status) tb t cb c result durable done refused trees shelves is (inr short) =
-    (Memory, (short_decides v before now (Err status) status is short.0 refused trees, short.1))
+    (Memory, text_of Memory, (short_decides v before now (Err status) status is short.0 refused trees, refl, short.1))
 
 -- ---- where the answer is a failed read
 

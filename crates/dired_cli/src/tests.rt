@@ -17,6 +17,11 @@ const ONE: &str = "renamed 1, retargeted 0, modes 0, replaced 0, made 0, flagged
 
 const NONE: &str = "renamed 0, retargeted 0, modes 0, replaced 0, made 0, flagged 0\n";
 
+const FLAGGED: &str =
+    "flagged a\nrenamed 0, retargeted 0, modes 0, replaced 0, made 0, flagged 1\n";
+
+const STALE: &str = "dired: line 4: the file is not as shown\n";
+
 // The path of one name.
 fn path_of(alloc: Global, name: &str) -> Result<Path, Memory> {
     let mut names = Vec::new(alloc);
@@ -65,6 +70,44 @@ fn shelf_of(alloc: Global, before: &str, after: &str, fail: &[u64]) -> Result<Me
     MemShelf::new(alloc, files, Vec::from_slice(alloc, fail)?)
 }
 
+// A file of 12 bytes with the set-user bit, a directory, a link to the file, and a hidden file.
+fn listed_tree(alloc: Global) -> Result<MemTree, Memory> {
+    let mut entries = Vec::new(alloc);
+    let nodes = [
+        (
+            "a",
+            Node::File {
+                number: 1,
+                bytes: Bytes::copy_of(alloc, b"twelve bytes")?,
+                mode: 0o4755,
+            },
+            60,
+        ),
+        ("d", Node::Dir(0o755), 0),
+        ("l", Node::Link(Text::copy_of(alloc, "a")?), 0),
+        (
+            ".h",
+            Node::File {
+                number: 2,
+                bytes: Bytes::copy_of(alloc, b"")?,
+                mode: 0o644,
+            },
+            0,
+        ),
+    ];
+    for (name, node, mtime) in nodes {
+        entries.push(Entry {
+            path: path_of(alloc, name)?,
+            node,
+            mtime,
+        })?;
+    }
+    match MemTree::new(alloc, &entries) {
+        Ok(tree) => Ok(tree),
+        Err(_) => Err(Memory),
+    }
+}
+
 // Has nothing pending behind it, where it answers true.
 fn settle<T: Tree>(tree: &mut T) -> bool
     ensures { T.Tells → IsTrue result → IsDurable (T.history tree.new) }
@@ -111,77 +154,33 @@ fn commits_and_refusals(rt: HostRuntime) -> Result<(), Fail> {
     let both =
         "dired 1\n  .:\n  total 2\n  -rw-r--r-- 1 u g 0 1970-01-01 00:00 c\n  -rw-r--r-- 1 u g 0 1970-01-01 00:00 d\n";
     let one = "dired 1\n  .:\n  total 1\n  -rw-r--r-- 1 u g 0 1970-01-01 00:00 a\n";
-    let taken = "dired 1\n  .:\n  total 1\n  -rw-r--r-- 1 u g 0 1970-01-01 00:00 k\n";
+    let taken = "dired 1\n  .:\n  total 1\n  -rw-r--r-- 1 u g 0 1970-01-01 00:00 b\n";
     let other = "dired 2\n  .:\n  total 1\n  -rw-r--r-- 1 u g 0 1970-01-01 00:00 a\n";
+    let eight = "dired 1\n  .:\n  total 1\n  -rw-r--r- 1 u g 0 1970-01-01 00:00 a\n";
+    let emptied =
+        "dired 1\n  .:\n  total 2\n  -rw-r--r-- 1 u g 0 1970-01-01 00:00 \n  -rw-r--r-- 1 u g 0 1970-01-01 00:00 b\n";
+    let mode =
+        "dired 1\n  .:\n  total 2\n  -rw------- 1 u g 0 1970-01-01 00:00 a\n  -rw-r--r-- 1 u g 0 1970-01-01 00:00 b\n";
+    let below =
+        "dired 1\n  .:\n  total 2\n  -rw-r--r-- 1 u g 0 1970-01-01 00:00 x/a\n  -rw-r--r-- 1 u g 0 1970-01-01 00:00 b\n";
+    let not_built = "dired: line 4: not built yet\n";
     let cases = [
-        (BEFORE, RENAMED, ["a", "b"], 0o644, 0, ONE, "bc"),
-        (BEFORE, BEFORE, ["a", "b"], 0o644, 0, NONE, "ab"),
-        (
-            one,
-            taken,
-            ["a", "k"],
-            0o644,
-            23,
-            "dired: line 4: not built yet\n",
-            "ak",
-        ),
-        (
-            BEFORE,
-            RENAMED,
-            ["a", "b"],
-            0o600,
-            10,
-            "dired: line 4: the file is not as shown\n",
-            "ab",
-        ),
-        (
-            BEFORE,
-            owner,
-            ["a", "b"],
-            0o644,
-            8,
-            "dired: line 4: Fixed\n",
-            "ab",
-        ),
-        (
-            BEFORE,
-            longer,
-            ["a", "b"],
-            0o644,
-            8,
-            "dired: line 6: LineCount\n",
-            "ab",
-        ),
-        (
-            BEFORE,
-            root,
-            ["a", "b"],
-            0o644,
-            8,
-            "dired: line 4: BadName\n",
-            "ab",
-        ),
-        (
-            BEFORE,
-            both,
-            ["a", "b"],
-            0o644,
-            23,
-            "dired: line 5: not built yet\n",
-            "ab",
-        ),
-        (
-            other,
-            other,
-            ["a", "b"],
-            0o644,
-            23,
-            "dired: line 1: not built yet\n",
-            "ab",
-        ),
+        (BEFORE, RENAMED, 0o644, 0, ONE, "bc"),
+        (BEFORE, BEFORE, 0o644, 0, NONE, "ab"),
+        (BEFORE, emptied, 0o644, 0, FLAGGED, "ab"),
+        (one, taken, 0o644, 23, not_built, "ab"),
+        (BEFORE, mode, 0o644, 23, not_built, "ab"),
+        (BEFORE, below, 0o644, 23, not_built, "ab"),
+        (BEFORE, both, 0o644, 23, "dired: line 5: not built yet\n", "ab"),
+        (BEFORE, RENAMED, 0o600, 10, STALE, "ab"),
+        (BEFORE, owner, 0o644, 8, "dired: line 4: Fixed\n", "ab"),
+        (BEFORE, longer, 0o644, 8, "dired: line 6: LineCount\n", "ab"),
+        (BEFORE, root, 0o644, 8, "dired: line 4: BadName\n", "ab"),
+        (other, other, 0o644, 7, "dired: B, line 1: FirstLine\n", "ab"),
+        (eight, eight, 0o644, 7, "dired: B, line 4: Line Mode\n", "ab"),
     ];
-    for (before, after, names, mode, number, output, left) in cases {
-        let mut tree = tree_of(alloc, &names, mode)?;
+    for (before, after, mode, number, output, left) in cases {
+        let mut tree = tree_of(alloc, &["a", "b"], mode)?;
         let mut shelf = shelf_of(alloc, before, after, &[])?;
         let mut sink = MemSink::new(alloc, Vec::new(alloc))?;
         assert!(rt; settle(&mut tree));
@@ -206,10 +205,11 @@ fn words_inputs_and_output(rt: HostRuntime) -> Result<(), Fail> {
     let missing = "dired: no such input: C\n";
     let escaped = "dired: no such input: \\n\n";
     let unread = "dired: cannot read A\n";
-    let cases: [(&[&str], &[u64], &[u64], u8, &str, &str); 6] = [
+    let cases: [(&[&str], &[u64], &[u64], u8, &str, &str); 7] = [
         (&["commit", "B"], &[], &[], 1, usage, "ab"),
         (&["commits", "B", "A"], &[], &[], 1, usage, "ab"),
         (&["commit", "B", "C"], &[], &[], 6, missing, "ab"),
+        (&["commit", "--all", "B", "A", "k"], &[], &[], 0, ONE, "bc"),
         (&["commit", "\n", "A"], &[], &[], 6, escaped, "ab"),
         (&["commit", "B", "A"], &[1], &[], 3, unread, "ab"),
         (&["commit", "B", "A"], &[], &[0], 5, "", "bc"),
@@ -226,6 +226,43 @@ fn words_inputs_and_output(rt: HostRuntime) -> Result<(), Fail> {
         if number == 5 {
             assert_eq!(rt; status, Status::WriteFault { held: 0 });
         }
+    }
+    Ok(())
+}
+
+#[test]
+fn listings(rt: HostRuntime) -> Result<(), Fail> {
+    let alloc = rt.alloc();
+    let three =
+        "dired 1\n  .:\n  total 3\n  -rwsr-xr-x 1 u g 12 1970-01-01 00:01 a\n  drwxr-xr-x 1 u g  0 1970-01-01 00:00 d\n  lrwxrwxrwx 1 u g  1 1970-01-01 00:00 l -> a\n";
+    let by_size =
+        "dired 1\n  .:\n  total 3\n  drwxr-xr-x 1 u g  0 1970-01-01 00:00 d\n  lrwxrwxrwx 1 u g  1 1970-01-01 00:00 l -> a\n  -rwsr-xr-x 1 u g 12 1970-01-01 00:01 a\n\n  d:\n  total 0\n";
+    let all =
+        "dired 1\n  .:\n  total 4\n  -rwsr-xr-x 1 u g 12 1970-01-01 00:01 a\n  -rw-r--r-- 1 u g  0 1970-01-01 00:00 .h\n  drwxr-xr-x 1 u g  0 1970-01-01 00:00 d\n  lrwxrwxrwx 1 u g  1 1970-01-01 00:00 l -> a\n";
+    let usage = "dired: usage: list, commit, run, recover or drill\n";
+    let absent = "dired: no such input: nosuch\n";
+    let no_names = "dired: names failed; nothing was decided\n";
+    let no_meta = "dired: meta failed; nothing was decided\n";
+    let cases: [(&[&str], &[u64], u8, &str); 9] = [
+        (&["list", "-l"], &[], 0, three),
+        (&["list", "-Sr", ".", "d", "x/../d"], &[], 0, by_size),
+        (&["list", "-At"], &[], 0, all),
+        (&["list", "d", "nosuch", "/"], &[], 1, usage),
+        (&["list", "d", "nosuch", "z"], &[], 6, absent),
+        (&["list", "l"], &[], 6, "dired: no such input: l\n"),
+        (&["list", "--", "-x"], &[], 6, "dired: no such input: -x\n"),
+        (&["list"], &[0], 4, no_names),
+        (&["list"], &[1], 4, no_meta),
+    ];
+    for (words, looks, number, output) in cases {
+        let mut tree = listed_tree(alloc)?;
+        let mut shelf = MemShelf::new(alloc, Vec::new(alloc), Vec::new(alloc))?;
+        let mut sink = MemSink::new(alloc, Vec::new(alloc))?;
+        tree.fail_looks(looks)?;
+        assert!(rt; settle(&mut tree));
+        let status = try_run(alloc, words, &mut tree, &mut shelf, &mut sink)?;
+        assert_eq!(rt; status.number(), number, "at {output}");
+        assert_eq!(rt; sink.taken(), output.as_bytes());
     }
     Ok(())
 }

@@ -11,4 +11,4 @@ returns-in_default-clause-any_moment g c tells = unmoved _ _ _ (c.look.ensures.h
 
 pub commit_one-requires-clause-can : goal.commit_one-requires-clause-can
 commit_one-requires-clause-can g c tells =
-    can_change _ _ c.args.change.now (c.look.ensures.history tells) (g.met.T.Tree.is_sound c.look.new.tree tells).tree c.requires.source c.requires.to (c.in_ok-look.ensures.ok tells)
+    can_change _ _ c.args.change.now (c.look.ensures.history tells) (g.met.T.Tree.is_sound c.look.new.tree tells).tree c.requires.can (c.in_ok-look.ensures.ok tells)
