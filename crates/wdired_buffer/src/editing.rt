@@ -39,10 +39,7 @@ pub fn edits(alloc: Global, before: &[BufferLine], after: &[u8]) -> Result<Edite
 {
     let count = count_lines(after);
     if count != before.len() {
-        return Err(faulty(
-            count.min(before.len()) as u32 + 1,
-            LineCause::LineCount,
-        ));
+        return Err(faulty(count.min(before.len()) as u32 + 1, LineCause::LineCount));
     }
     let mut edited = Edited::none(alloc);
     let mut passed = Passed::none(alloc);
