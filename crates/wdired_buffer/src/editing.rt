@@ -1,5 +1,5 @@
 // What an edited buffer asks for.
-ghost use Rattle.std.specs.Prelude.{◌≡◌, ◌⊎◌, ℕ, ◌<◌, ◌≤◌, ◌||◌, ◌∷◌, ◌++◌, [], min, length, true, false, Ok, Err, IfOk, IfErr, OnOk, option_to_list};
+ghost use Rattle.std.specs.Prelude.{◌≡◌, ◌⊎◌, ◌<◌, ◌||◌, ◌∷◌, ◌++◌, [], length, true, false, Ok, Err, IfOk, IfErr, OnOk, option_to_list};
 ghost use Rattle.std.specs.BTreeSet.{contains};
 ghost use Rattle.dired_text.specs.Answers.{IsOrMemory};
 ghost use Rattle.dired_text.specs.Paths.{Names, path_cmp};
