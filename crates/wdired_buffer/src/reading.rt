@@ -1,5 +1,5 @@
 // Reading a buffer.
-ghost use Rattle.std.specs.Prelude.{◌≡◌, ◌⊎◌, ◌<◌, ◌≤◌, ◌+◌, [], length, Ok, Err, IfOk, IfErr, IfSome};
+ghost use Rattle.std.specs.Prelude.{◌≡◌, ◌⊎◌, ◌<◌, ◌≤◌, ◌+◌, [], length, Ok, Err, IfOk, IfErr, IfSome, vec_len};
 ghost use Rattle.dired_text.specs.Answers.{IsOrMemory};
 ghost use Rattle.listing_text.specs.declared.faults.Field.TheVariants as field_of;
 ghost use Rattle.wdired_buffer.specs.declared.faults.BufferFault.TheVariants.{Bad as bad_line, Memory as memory};
@@ -32,6 +32,7 @@ pub fn read_buffer(alloc: Global, bytes: &[u8]) -> Result<Vec<BufferLine>, Buffe
     requires { length bytes.now < 4294967295 }
     ensures lines { IfOk result (λ v. buffer_of bytes.now ≡ Ok v.items) }
     ensures refused { IfErr result (λ e. (e ≡ memory) ⊎ (buffer_of bytes.now ≡ Err e)) }
+    ensures few { IfOk result (λ v. vec_len v ≤ 200_000) }
 {
     let count = count_lines(bytes);
     if count > MAX_LINES {
