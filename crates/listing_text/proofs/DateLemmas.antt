@@ -61,7 +61,7 @@ year_of-is y m d low high h =
     latest-is (λ year. days_from_civil (pos year) 1 1) 9998 y (days_from_civil (pos y) m d) low high
     (omega (arith, signed_arith, days_from_civil-day_count (pos y) m d, days_from_civil-day_count (pos y) 1 1, day_count-day_of_year (pos y) m d h.2.0, h.2.0))
     (λ j above within. let before : pos y <ℤ pos j = omega (arith, signed_arith) in
-      omega (arith, signed_arith, days_from_civil-day_count (pos y) m d, days_from_civil-day_count (pos j) 1 1, day_count-lt_year (pos y) m d (pos j) 1 1 h (omega arith) before))
+    omega (arith, signed_arith, days_from_civil-day_count (pos y) m d, days_from_civil-day_count (pos j) 1 1, day_count-lt_year (pos y) m d (pos j) 1 1 h (omega arith) before))
 
 pub month_of-is : (y m d : ℕ) → 1 ≤ y → y ≤ 9998 → IsCivilDate (pos y) m d → month_of (days_from_civil (pos y) m d) ≡ m
 unfolding month_of
@@ -69,7 +69,7 @@ month_of-is y m d low high h =
     rw (year_of-is y m d low high h) (latest-is (λ month. days_from_civil (pos y) month 1) 12 m (days_from_civil (pos y) m d) h.1.0 h.1.1
     (omega (arith, signed_arith, days_from_civil-day_count (pos y) m d, days_from_civil-day_count (pos y) m 1, day_count-day (pos y) m d 1 h.2.0 (omega arith), h.2.0))
     (λ j above within.
-      omega (arith, signed_arith, days_from_civil-day_count (pos y) m d, days_from_civil-day_count (pos y) j 1, day_count-lt_month (pos y) m d j 1 h (omega arith) above)))
+    omega (arith, signed_arith, days_from_civil-day_count (pos y) m d, days_from_civil-day_count (pos y) j 1, day_count-lt_month (pos y) m d j 1 h (omega arith) above)))
 
 day-left : (first day : ℤ) (d : ℕ) → 1 ≤ d → up day + down first + 1 ≡ down day + up first + d → unsigned_abs (day -ℤ first) + 1 ≡ d
 day-left first day d some e =
@@ -107,6 +107,7 @@ year-bounds y m d h low high = (
   where
     year-begins : (y : ℤ) (m d : ℕ) → IsCivilDate y m d → day_count y 1 1 ≤ day_count y m d
     year-begins y m d h = omega (arith, day_count-day_of_year y m d h.2.0, h.2.0)
+
     year-order : (y : ℤ) → pos 9998 <ℤ y → day_count (pos 9999) 1 1 ≤ day_count y 1 1
     year-order y lt = by_lt_z (pos 9999) y (λ above. omega (arith, day_count-later_year (pos 9999) y (omega (arith, signed_arith)) above)) (λ le. let same : y ≡ pos 9999 = omega (arith, signed_arith) in rw same (omega arith))
 
@@ -171,9 +172,10 @@ unfolding IsCast
 cast-from-moment y mo d h mi is =
     let p = moment-parts y mo d h mi is in
     let low : d ≤ 31 = omega (arith, p.5, days-few (pos y) mo) in
-    rw (cast16 y p.1, cast8 mo (omega (arith, p.3)), cast8 d (omega arith), cast8 h (omega (arith, p.6)), cast8 mi (omega (arith, p.7)))
-    (((omega (arith, signed_arith), omega (arith, signed_arith, p.1)), (omega (arith, signed_arith, p.2), omega (arith, signed_arith, p.3)), (omega (arith, signed_arith, p.4), omega (arith, signed_arith, p.5))),
-      ((omega (arith, signed_arith), omega (arith, signed_arith, p.6)), (omega (arith, signed_arith), omega (arith, signed_arith, p.7)), (omega (arith, signed_arith), omega (arith, signed_arith)), (omega (arith, signed_arith), omega (arith, signed_arith))))
+    rw (cast16 y p.1, cast8 mo (omega (arith, p.3)), cast8 d (omega arith), cast8 h (omega (arith, p.6)), cast8 mi (omega (arith, p.7))) (
+      ((omega (arith, signed_arith), omega (arith, signed_arith, p.1)), (omega (arith, signed_arith, p.2), omega (arith, signed_arith, p.3)), (omega (arith, signed_arith, p.4), omega (arith, signed_arith, p.5))),
+      ((omega (arith, signed_arith), omega (arith, signed_arith, p.6)), (omega (arith, signed_arith), omega (arith, signed_arith, p.7)), (omega (arith, signed_arith), omega (arith, signed_arith)), (omega (arith, signed_arith), omega (arith, signed_arith))),
+    )
 
 -- a constructor that refuses the casts, and one that takes them
 pub moment-none : (y mo d h mi : ℕ) → ((IsDate (to_z w16 y) (to_z w8 mo) (to_z w8 d) × IsTime (to_z w8 h) (to_z w8 mi) (pos 0) (pos 0)) → ⊥) → moment_of y mo d h mi ≡ None
@@ -206,9 +208,10 @@ civil_minute-is dt y mo d h mi last month day hour minute ey emo ed eh emi =
 pub day-bounds : (y : ℤ) (m d : ℕ) → IsCivilDate y m d → pos 1 ≤ℤ y → y ≤ℤ pos 9998 → (neg_ℤ (pos 719_162) ≤ℤ days_from_civil y m d) × (days_from_civil y m d ≤ℤ pos 2_932_531)
 day-bounds y m d h low high =
     let first : day_count (pos 1) 1 1 ≤ day_count y 1 1 = by_lt_z (pos 1) y (λ above. omega (arith, day_count-later_year (pos 1) y (omega (arith, signed_arith)) above)) (λ le. let same : y ≡ pos 1 = omega (arith, signed_arith) in rw same (omega arith)) in
-    let last : y <ℤ pos 9999 = omega (arith, signed_arith) in
-    (omega (arith, signed_arith, days_from_civil-day_count y m d, first_day, day_count-day_of_year y m d h.2.0, h.2.0, first),
-      omega (arith, signed_arith, days_from_civil-day_count y m d, end_day, day_count-lt_year y m d (pos 9999) 1 1 h (omega arith) last))
+    let last : y <ℤ pos 9999 = omega (arith, signed_arith) in (
+      omega (arith, signed_arith, days_from_civil-day_count y m d, first_day, day_count-day_of_year y m d h.2.0, h.2.0, first),
+      omega (arith, signed_arith, days_from_civil-day_count y m d, end_day, day_count-lt_year y m d (pos 9999) 1 1 h (omega arith) last),
+    )
 
 -- what a default replaces is no answer that is Ok
 pub kept : (T E : Type 0) (P : T → Type 0) (r : Result T E) (d i : T) → IsOk r → IfOk r P → i ≡ result_unwrap_or r d → P i

@@ -24,7 +24,7 @@ word-ascii : (w : List ℕ) → list_all is_word_byte w ≡ true → IsAscii w
 word-ascii w all i =
     elim (cases_lt i (length w)) [
       | inl within ↦ let parts = and_parts (nat_le 33 (get_or w i 0)) (nat_le (get_or w i 0) 126) (All-get_or (λ b. is_word_byte b ≡ true) w i 0 within (AllPass-from_list_all is_word_byte w all)) in
-        let high : get_or w i 0 ≤ 126 = leb-true (get_or w i 0) 126 parts.1 in omega arith
+          let high : get_or w i 0 ≤ 126 = leb-true (get_or w i 0) 126 parts.1 in omega arith
       | inr past ↦ let none : get_or w i 0 ≡ 0 = get_or_past w i 0 past in omega arith
     ]
 

@@ -1,6 +1,7 @@
 pub mod ColumnLemmas
 pub mod DateLemmas
 pub mod FieldLemmas
+pub mod FieldReads
 pub mod GrammarBack
 pub mod GrammarLemmas
 pub mod MomentLemmas
@@ -9,3 +10,4 @@ pub mod NumberLemmas
 pub mod OrderLemmas
 pub mod PlainLemmas
 pub mod RunLemmas
+pub mod WrittenLemmas

@@ -134,7 +134,7 @@ minute_of-from (x0 ∷ x1 ∷ x2 ∷ x3 ∷ x4 ∷ x5 ∷ x6 ∷ x7 ∷ x8 ∷ x
           let mi = two_of-from k l minute is_minute in
           let same : stamp year month day hour minute ≡ (a ∷ b ∷ c ∷ d ∷ dash₁ ∷ e ∷ f ∷ dash₂ ∷ g ∷ h ∷ space ∷ i ∷ j ∷ colon ∷ k ∷ l ∷ []) =
           λ t. y.0 t ∷ y.1 t ∷ y.2 t ∷ y.3 t ∷ sym (eqb-true dash₁ 45 p1.0) t ∷ mo.1 t ∷ mo.2 t ∷ sym (eqb-true dash₂ 45 p1.1) t ∷ da.1 t ∷ da.2 t
-            ∷ sym (eqb-true space 32 p2.1) t ∷ ho.1 t ∷ ho.2 t ∷ sym (eqb-true colon 58 p3.1) t ∷ mi.1 t ∷ mi.2 t ∷ [] in
+          ∷ sym (eqb-true space 32 p2.1) t ∷ ho.1 t ∷ ho.2 t ∷ sym (eqb-true colon 58 p3.1) t ∷ mi.1 t ∷ mi.2 t ∷ [] in
           let text : minute_text m ≡ stamp year month day hour minute = ap minute_text (sym moment.1) ∙ minute_text-at year month day hour minute moment.0 in
           let shown : shown_minute (minute_at year month day hour minute) ≡ minute_at year month day hour minute = minute-in-range year month day hour minute moment.0 in
           (sym (text ∙ same), subst (λ z. shown_minute z ≡ z) moment.1 shown))))))
@@ -160,13 +160,13 @@ latest-found f (suc zero) day some begins =
 latest-found f (suc (suc n)) day some begins =
     by_lt_z day (f (suc (suc n)))
     (λ before. let inner = latest-found f (suc n) day (omega arith) begins in
-      let k = latest f (suc n) day in
-      let next : day <ℤ f (k + 1) = elim (cases_order k (suc n)) [
-        | inl same ↦ let e : suc (suc n) ≡ k + 1 = omega arith in subst (λ j. day <ℤ f j) e before
-        | inr (inl below) ↦ inner.3 below
-        | inr (inr above) ↦ absurd (omega (arith, inner.1))
-      ] in
-      subst (IsLatest f (suc (suc n)) day) (sym (latest-before f (suc n) day before)) (inner.0, omega (arith, inner.1), inner.2, λ below. next))
+    let k = latest f (suc n) day in
+    let next : day <ℤ f (k + 1) = elim (cases_order k (suc n)) [
+      | inl same ↦ let e : suc (suc n) ≡ k + 1 = omega arith in subst (λ j. day <ℤ f j) e before
+      | inr (inl below) ↦ inner.3 below
+      | inr (inr above) ↦ absurd (omega (arith, inner.1))
+    ] in
+    subst (IsLatest f (suc (suc n)) day) (sym (latest-before f (suc n) day before)) (inner.0, omega (arith, inner.1), inner.2, λ below. next))
     (λ reached. subst (IsLatest f (suc (suc n)) day) (sym (latest-here f (suc n) day reached)) (omega arith, omega arith, reached, λ below. absurd (omega arith)))
 
 -- a date of the calendar whose day this is
@@ -216,8 +216,16 @@ civil-exists day low high =
     let m_high : m ≤ 12 = month.1 in
     let out : day <ℤ (days_from_civil (pos y) m 1 +ℤ pos (days_in_month (pos y) m)) = elim (cases_order m 12) [
       | inl same ↦ subst (λ j. day <ℤ (days_from_civil (pos y) j 1 +ℤ pos (days_in_month (pos y) j))) (sym same)
-          (omega (arith, signed_arith, days_from_civil-day_count (pos y) 12 1, days_from_civil-day_count (pos (y + 1)) 1 1, days_from_civil-day_count (pos y) 1 1,
-            day_count-next_year (pos y) (pos (y + 1)) (omega (arith, signed_arith)) next_year, day_count-last_of_year (pos y), day_count-day (pos y) 12 31 1 (omega arith) (omega arith)))
+          (omega (
+            arith,
+            signed_arith,
+            days_from_civil-day_count (pos y) 12 1,
+            days_from_civil-day_count (pos (y + 1)) 1 1,
+            days_from_civil-day_count (pos y) 1 1,
+            day_count-next_year (pos y) (pos (y + 1)) (omega (arith, signed_arith)) next_year,
+            day_count-last_of_year (pos y),
+            day_count-day (pos y) 12 31 1 (omega arith) (omega arith),
+          ))
       | inr (inl below) ↦ let then_ends : day <ℤ days_from_civil (pos y) (m + 1) 1 = month.3 below in
           omega (arith, signed_arith, days_from_civil-day_count (pos y) m 1, days_from_civil-day_count (pos y) (m + 1) 1, day_count-next_month (pos y) m m_low)
       | inr (inr above) ↦ absurd (omega (arith, month.1))
@@ -261,3 +269,10 @@ minute_text-length minute = refl
 pub minute_text-head : (minute : ℤ) (rest : List ℕ) → Stops is_space (minute_text minute ++ rest)
 unfolding minute_text
 minute_text-head minute rest = ne_eqb _ 32 (λ e. absurd (omega arith))
+
+pub shown-again : (minute : ℤ) → shown_minute (shown_minute minute) ≡ shown_minute minute
+shown-again minute = let bounds = shown-bounds minute in shown-between (shown_minute minute) bounds.0 bounds.1
+
+pub minute_text-shown : (minute : ℤ) → minute_text (shown_minute minute) ≡ minute_text minute
+unfolding minute_text
+minute_text-shown minute = rw (shown-again minute) refl

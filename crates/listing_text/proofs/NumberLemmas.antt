@@ -19,7 +19,7 @@ length-decimal-digit n low = ap length (decimal_digit n low)
 is_digit-bounds : (b : ℕ) → is_digit b ≡ true → (48 ≤ b) × (b ≤ 57)
 is_digit-bounds b is = let parts = and_parts (nat_le 48 b) (nat_le b 57) is in (leb-true 48 b parts.0, leb-true b 57 parts.1)
 
-digits-all : (ds : List ℕ) → list_all is_digit ds ≡ true → AllDigits 10 ds
+pub digits-all : (ds : List ℕ) → list_all is_digit ds ≡ true → AllDigits 10 ds
 digits-all [] is = tt
 digits-all (d ∷ ds) is =
     let parts = and_parts (is_digit d) (list_all is_digit ds) is in
@@ -30,7 +30,7 @@ alone : (b : ℕ) (rest : Bool) → b ≡ 48 → (not (b == 48) || rest) ≡ tru
 alone b rest zero_first is = let e : eqb b 48 ≡ true = rw zero_first refl in rw e at is
 
 -- the digits of a decimal text, of which the first is a zero only where it stands alone
-decimal-digits : (text : List ℕ) → is_decimal text ≡ true → (list_all is_digit text ≡ true) × (0 < length text) × (get_or text 0 0 ≡ 48 → length text ≡ 1)
+pub decimal-digits : (text : List ℕ) → is_decimal text ≡ true → (list_all is_digit text ≡ true) × (0 < length text) × (get_or text 0 0 ≡ 48 → length text ≡ 1)
 decimal-digits [] is = cc
 decimal-digits (b ∷ bs) is =
     let parts = and_parts (list_all is_digit (b ∷ bs)) (not (b == 48) || (length bs == 0)) is in

@@ -70,6 +70,7 @@ minute_at year month day hour minute = days_from_civil (pos year) month day *ℤ
 abbrev pub civil_minute : DateTime → ℤ
 civil_minute civil = epoch_day civil.date *ℤ pos 1440 +ℤ pos (civil.time.hour * 60 + civil.time.minute)
 
+-- the same, where there is such a date and time
 unfoldable pub moment_of : ℕ → ℕ → ℕ → ℕ → ℕ → Option ℤ
 moment_of year month day hour minute = if is_moment year month day hour minute then Some (minute_at year month day hour minute) else None
 
@@ -91,8 +92,8 @@ four_of a b c d = do
 unfoldable pub minute_of : List ℕ → Option ℤ
 minute_of (a ∷ b ∷ c ∷ d ∷ dash₁ ∷ e ∷ f ∷ dash₂ ∷ g ∷ h ∷ space ∷ i ∷ j ∷ colon ∷ k ∷ l ∷ []) =
     if dash₁ == 45 && dash₂ == 45 && space == 32 && colon == 58 then
-        (four_of a b c d >>= λ year. two_of e f >>= λ month. two_of g h >>= λ day. two_of i j >>= λ hour. two_of k l >>= λ minute.
-        moment_of year month day hour minute)
+    (four_of a b c d >>= λ year. two_of e f >>= λ month. two_of g h >>= λ day. two_of i j >>= λ hour. two_of k l >>= λ minute.
+    moment_of year month day hour minute)
     else None
 minute_of text = None
 

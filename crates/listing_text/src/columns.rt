@@ -35,17 +35,30 @@ fn wider(width: u8, len: usize) -> u8
 
 // Pushes links, owner, group and size in their columns, each with a space in front.
 #[tactic(auto, unfolding(crate::specs::Listed::columns_text))]
-pub(crate) fn push_columns(alloc: Global, text: &mut Vec<u8>, line: &Line, widths: &Widths) -> Result<(), Memory>
+pub(crate) fn push_columns(
+    alloc: Global,
+    text: &mut Vec<u8>,
+    line: &Line,
+    widths: &Widths,
+) -> Result<(), Memory>
     ensures { OnOk result (text.new.items ≡ text.old.items ++ columns_text line.now widths.now) }
 {
     text.push(b' ')?;
-    push_right(text, widths.links, format!(in alloc; "{}", line.links)?.as_bytes())?;
+    push_right(
+        text,
+        widths.links,
+        format!(in alloc; "{}", line.links)?.as_bytes(),
+    )?;
     text.push(b' ')?;
     push_left(text, widths.owner, line.owner.as_str().as_bytes())?;
     text.push(b' ')?;
     push_left(text, widths.group, line.group.as_str().as_bytes())?;
     text.push(b' ')?;
-    push_right(text, widths.size, format!(in alloc; "{}", line.size)?.as_bytes())
+    push_right(
+        text,
+        widths.size,
+        format!(in alloc; "{}", line.size)?.as_bytes(),
+    )
 }
 
 // Pushes a field at the right of its column.

@@ -17,6 +17,7 @@ pub fn minute_of(second: i64) -> i64
 
 // 0001-01-01 00:00 and 9998-12-31 23:59, the first and the last minute that are shown.
 const FIRST_MINUTE: i64 = -1_035_593_280;
+
 const LAST_MINUTE: i64 = 4_222_846_079;
 
 // A date of the years 1 to 9998 and a time of day.
@@ -139,7 +140,15 @@ fn minute_at(year: u16, month: u8, day: u8, hour: u8, minute: u8) -> Option<i64>
     if year < 1 || 9998 < year || month > 12 || day > 31 || hour > 23 || minute > 59 {
         return None;
     }
-    match DateTime::new(year as i16, month as i8, day as i8, hour as i8, minute as i8, 0, 0) {
+    match DateTime::new(
+        year as i16,
+        month as i8,
+        day as i8,
+        hour as i8,
+        minute as i8,
+        0,
+        0,
+    ) {
         Ok(civil) => Some(minute_of_civil(civil)),
         Err(_) => None,
     }
@@ -153,6 +162,8 @@ fn minute_of_civil(civil: DateTime) -> i64
     requires fraction { civil.time.subsec_nanosecond ≡ 0 }
     ensures { result ≡ civil_minute civil }
 {
-    let instant = Offset::UTC.to_timestamp(civil).unwrap_or(Timestamp::UNIX_EPOCH);
+    let instant = Offset::UTC
+        .to_timestamp(civil)
+        .unwrap_or(Timestamp::UNIX_EPOCH);
     instant.as_second().div_euclid(60)
 }

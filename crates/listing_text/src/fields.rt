@@ -110,7 +110,9 @@ fn digits_len(text: &[u8]) -> usize
     ensures len { result ≡ run_len is_digit_byte text.now }
     ensures bound { result ≤ length text.now }
 {
-    text.iter().position(|b| !is_digit(*b)).unwrap_or(text.len())
+    text.iter()
+        .position(|b| !is_digit(*b))
+        .unwrap_or(text.len())
 }
 
 // How many bytes stand before the first space.

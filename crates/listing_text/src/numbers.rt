@@ -40,13 +40,7 @@ fn parse_up_to(digits: &str, most: u64) -> Option<u64>
     ensures bound { IfSome result (λ n. n ≤ most) }
 {
     match digits.parse::<u64>() {
-        Ok(number) => {
-            if number <= most {
-                Some(number)
-            } else {
-                None
-            }
-        }
+        Ok(number) => { if number <= most { Some(number) } else { None } }
         Err(_) => None,
     }
 }
@@ -57,9 +51,7 @@ fn is_decimal(text: &[u8]) -> bool
 {
     match text {
         [] => false,
-        [first, rest @ ..] => {
-            has_digits(text) && (*first != b'0' || rest.is_empty())
-        }
+        [first, rest @ ..] => { has_digits(text) && (*first != b'0' || rest.is_empty()) }
     }
 }
 

@@ -45,7 +45,10 @@ fn forward(switches: Switches, a: &Line, b: &Line) -> Ordering
 fn by_all_fields(a: &Line, b: &Line) -> Ordering
     ensures { result ≡ by_all_fields_cmp a.now b.now }
 {
-    a.name.as_str().cmp(b.name.as_str()).then(by_other_fields(a, b))
+    a.name
+        .as_str()
+        .cmp(b.name.as_str())
+        .then(by_other_fields(a, b))
 }
 
 // By all fields but the name, in their order.

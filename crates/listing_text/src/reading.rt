@@ -6,9 +6,12 @@ ghost use Rattle.dired_text.specs.Escape.{unescaped};
 ghost use Rattle.listing_text.specs.declared.faults.LineFault.TheVariants.{Bad as bad_field, Memory as memory};
 ghost use Rattle.listing_text.specs.declared.faults.Field.TheVariants as field_of;
 ghost use Rattle.listing_text.specs.Fields.{kind_in as kind_in_text, number_in as number_in_text, word_in as word_in_text, date_in as date_in_text, if_read, plain_of, name_of, target_of};
+ghost use Rattle.listing_text.specs.Numbers.{most_links, most_size};
 ghost use Rattle.listing_text.specs.Reading.{line_of, front_of, seen, gapped, one, some, spaced, names_in, link_names, name_at};
 
-use crate::fields::{arrow_place, behind_space, date_in, kind_in, mark_in, mode_in, number_in, space_len, word_in};
+use crate::fields::{
+    arrow_place, behind_space, date_in, kind_in, mark_in, mode_in, number_in, space_len, word_in,
+};
 use crate::{Field, Line, LineFault};
 use dired_text::{EscapeError, Text, unescape};
 use std::alloc::Global;
@@ -116,7 +119,7 @@ fn kind_at(bytes: usize, text: &[u8]) -> Result<(Kind, &[u8]), LineFault>
 // The count of links behind its spaces.
 #[tactic(auto, unfolding(crate::specs::Reading::spaced))]
 fn links_at(bytes: usize, text: &[u8]) -> Result<(u32, &[u8]), LineFault>
-    ensures { result_map_both (λ t. (t.0, t.1.now)) (λ e. e) result ≡ spaced field_of.Links some (number_in_text 4_294_967_295) bytes text.now }
+    ensures { result_map_both (λ t. (t.0, t.1.now)) (λ e. e) result ≡ spaced field_of.Links some (number_in_text most_links) bytes text.now }
 {
     let rest = behind_some(Field::Links, bytes, text)?;
     let (links, later) = number_in(4_294_967_295, rest).ok_or(bad(Field::Links, bytes, rest))?;
@@ -126,7 +129,7 @@ fn links_at(bytes: usize, text: &[u8]) -> Result<(u32, &[u8]), LineFault>
 // The size behind its spaces.
 #[tactic(auto, unfolding(crate::specs::Reading::spaced))]
 fn size_at(bytes: usize, text: &[u8]) -> Result<(u64, &[u8]), LineFault>
-    ensures { result_map_both (λ t. (t.0, t.1.now)) (λ e. e) result ≡ spaced field_of.Size some (number_in_text 18_446_744_073_709_551_615) bytes text.now }
+    ensures { result_map_both (λ t. (t.0, t.1.now)) (λ e. e) result ≡ spaced field_of.Size some (number_in_text most_size) bytes text.now }
 {
     let rest = behind_some(Field::Size, bytes, text)?;
     number_in(18_446_744_073_709_551_615, rest).ok_or(bad(Field::Size, bytes, rest))
@@ -180,7 +183,12 @@ fn behind_some(field: Field, bytes: usize, text: &[u8]) -> Result<&[u8], LineFau
 
 // The name, and the target of a link.
 #[tactic(auto, unfolding(crate::specs::Reading::names_in))]
-fn read_names(alloc: Global, kind: Kind, bytes: usize, rest: &[u8]) -> Result<(Text, Text), LineFault>
+fn read_names(
+    alloc: Global,
+    kind: Kind,
+    bytes: usize,
+    rest: &[u8],
+) -> Result<(Text, Text), LineFault>
     ensures { IsOrMemory memory (names_in kind bytes rest.now) result }
 {
     match kind {
@@ -194,7 +202,12 @@ fn read_names(alloc: Global, kind: Kind, bytes: usize, rest: &[u8]) -> Result<(T
 
 // The name of a link, which ends before this place, and its target.
 #[tactic(auto, unfolding(crate::specs::Reading::link_names))]
-fn read_link_names(alloc: Global, bytes: usize, rest: &[u8], place: Option<usize>) -> Result<(Text, Text), LineFault>
+fn read_link_names(
+    alloc: Global,
+    bytes: usize,
+    rest: &[u8],
+    place: Option<usize>,
+) -> Result<(Text, Text), LineFault>
     requires { IfSome place (λ n. n + 4 ≤ length rest.now) }
     ensures { IsOrMemory memory (link_names bytes rest.now place) result }
 {

@@ -5,7 +5,15 @@ use std::test::Fail;
 use tree_core::Kind;
 
 // A line of owner `u` and group `g` with one link.
-fn line(alloc: Global, kind: Kind, mode: u16, size: u64, minute: i64, name: &str, target: &str) -> Result<Line, Fail> {
+fn line(
+    alloc: Global,
+    kind: Kind,
+    mode: u16,
+    size: u64,
+    minute: i64,
+    name: &str,
+    target: &str,
+) -> Result<Line, Fail> {
     Ok(Line {
         kind,
         mode,
@@ -36,7 +44,8 @@ fn sections_are_written(rt: HostRuntime) -> Result<(), Fail> {
     lines.push((b' ', line(alloc, Kind::Dir, 0o755, 0, 0, "d", "")?))?;
     lines.push((b'*', line(alloc, Kind::Link, 0o777, 1, 0, "l", "a")?))?;
     let text = section_text(alloc, &Path::root(alloc), &lines)?;
-    let want = "  .:\n  total 3\n  -rwsr-xr-x 1 u g 12 1970-01-01 00:00 a\n  drwxr-xr-x 1 u g  0 1970-01-01 00:00 d\n* lrwxrwxrwx 1 u g  1 1970-01-01 00:00 l -> a\n";
+    let want =
+        "  .:\n  total 3\n  -rwsr-xr-x 1 u g 12 1970-01-01 00:00 a\n  drwxr-xr-x 1 u g  0 1970-01-01 00:00 d\n* lrwxrwxrwx 1 u g  1 1970-01-01 00:00 l -> a\n";
     assert!(rt; is_text(&text, want));
     Ok(())
 }
@@ -78,10 +87,20 @@ fn columns_are_filled(rt: HostRuntime) -> Result<(), Fail> {
         size: 5,
     };
     let shown = line_text(alloc, b'D', &file(alloc, 120, 90, "a b")?, &widths)?;
-    assert!(rt; is_text(&shown, "D -rw-r--r--   1 u    g    120 1970-01-01 01:30 a b"));
+    assert!(rt;
+        is_text(
+            &shown,
+            "D -rw-r--r--   1 u    g    120 1970-01-01 01:30 a b"
+        )
+    );
     let link = line(alloc, Kind::Link, 0o777, 1, 0, "a -> b", "x>\n")?;
     let shown = line_text(alloc, b' ', &link, &widths)?;
-    assert!(rt; is_text(&shown, "  lrwxrwxrwx   1 u    g      1 1970-01-01 00:00 a -\\076 b -> x>\\n"));
+    assert!(rt;
+        is_text(
+            &shown,
+            "  lrwxrwxrwx   1 u    g      1 1970-01-01 00:00 a -\\076 b -> x>\\n"
+        )
+    );
     Ok(())
 }
 
@@ -206,36 +225,101 @@ fn bad_fields_are_named(rt: HostRuntime) {
         ("  -rw-r--r- 1 u g 0 1970-01-01 00:00 a", Field::Mode, 3),
         ("  - rw-r--r-- 1 u g 0 1970-01-01 00:00 a", Field::Mode, 3),
         ("  -rw-r--", Field::Mode, 3),
-        ("  lrwxr-xr-x 1 u g 0 1970-01-01 00:00 a -> b", Field::Mode, 3),
+        (
+            "  lrwxr-xr-x 1 u g 0 1970-01-01 00:00 a -> b",
+            Field::Mode,
+            3,
+        ),
         ("  -rw-r--r--1 u g 0 1970-01-01 00:00 a", Field::Links, 12),
-        ("  -rw-r--r--   01 u g 0 1970-01-01 00:00 a", Field::Links, 15),
+        (
+            "  -rw-r--r--   01 u g 0 1970-01-01 00:00 a",
+            Field::Links,
+            15,
+        ),
         ("  -rw-r--r-- -1 u g 0 1970-01-01 00:00 a", Field::Links, 13),
-        ("  -rw-r--r-- 4294967296 u g 0 1970-01-01 00:00 a", Field::Links, 13),
+        (
+            "  -rw-r--r-- 4294967296 u g 0 1970-01-01 00:00 a",
+            Field::Links,
+            13,
+        ),
         ("  -rw-r--r-- 1u g 0 1970-01-01 00:00 a", Field::Owner, 14),
-        ("  -rw-r--r-- 1  \u{e9} g 0 1970-01-01 00:00 a", Field::Owner, 16),
+        (
+            "  -rw-r--r-- 1  \u{e9} g 0 1970-01-01 00:00 a",
+            Field::Owner,
+            16,
+        ),
         ("  -rw-r--r-- 1 u", Field::Group, 16),
-        ("  -rw-r--r-- 1 u g\u{7f} 0 1970-01-01 00:00 a", Field::Group, 17),
+        (
+            "  -rw-r--r-- 1 u g\u{7f} 0 1970-01-01 00:00 a",
+            Field::Group,
+            17,
+        ),
         ("  -rw-r--r-- 1 u g  00 1970-01-01 00:00 a", Field::Size, 20),
-        ("  -rw-r--r-- 1 u g 18446744073709551616 1970-01-01 00:00 a", Field::Size, 19),
+        (
+            "  -rw-r--r-- 1 u g 18446744073709551616 1970-01-01 00:00 a",
+            Field::Size,
+            19,
+        ),
         ("  -rw-r--r-- 1 u g 0  1970-01-01 00:00 a", Field::Date, 22),
         ("  -rw-r--r-- 1 u g 01970-01-01 00:00 a", Field::Size, 19),
         ("  -rw-r--r-- 1 u g 0 1970-01-01 00:00", Field::Name, 37),
         ("  -rw-r--r-- 1 u g 0 1970-01-01 00:00a", Field::Name, 37),
         ("  -rw-r--r-- 1 u g 0 1970-01-01 00:00 ", Field::Name, 38),
-        ("  -rw-r--r-- 1 u g 0 1970-01-01 00:00 a\\q", Field::Name, 38),
+        (
+            "  -rw-r--r-- 1 u g 0 1970-01-01 00:00 a\\q",
+            Field::Name,
+            38,
+        ),
         ("  -rw-r--r-- 1 u g 0 1970-01-01 00:00 a\0", Field::Name, 38),
         ("  lrwxrwxrwx 1 u g 0 1970-01-01 00:00 a", Field::Target, 39),
-        ("  lrwxrwxrwx 1 u g 0 1970-01-01 00:00 a ->b", Field::Target, 43),
-        ("  lrwxrwxrwx 1 u g 0 1970-01-01 00:00  -> b", Field::Name, 38),
-        ("  lrwxrwxrwx 1 u g 0 1970-01-01 00:00 a -> ", Field::Target, 43),
-        ("  lrwxrwxrwx 1 u g 0 1970-01-01 00:00 a -> b\\", Field::Target, 43),
+        (
+            "  lrwxrwxrwx 1 u g 0 1970-01-01 00:00 a ->b",
+            Field::Target,
+            43,
+        ),
+        (
+            "  lrwxrwxrwx 1 u g 0 1970-01-01 00:00  -> b",
+            Field::Name,
+            38,
+        ),
+        (
+            "  lrwxrwxrwx 1 u g 0 1970-01-01 00:00 a -> ",
+            Field::Target,
+            43,
+        ),
+        (
+            "  lrwxrwxrwx 1 u g 0 1970-01-01 00:00 a -> b\\",
+            Field::Target,
+            43,
+        ),
     ];
     for (text, field, place) in cases {
         assert!(rt; is_bad(alloc, text.as_bytes(), field, place), "{text}");
     }
-    assert!(rt; is_bad(alloc, b"  -rw-r--r-- 1 u g 0 1970-01-01 00:00 \xff", Field::Name, 38));
-    assert!(rt; is_bad(alloc, b"  lrwxrwxrwx 1 u g 0 1970-01-01 00:00 a -> \xff", Field::Target, 43));
-    assert!(rt; is_bad(alloc, b"  -rw-r--r-- 1 \xff g 0 1970-01-01 00:00 a", Field::Owner, 15));
+    assert!(rt;
+        is_bad(
+            alloc,
+            b"  -rw-r--r-- 1 u g 0 1970-01-01 00:00 \xff",
+            Field::Name,
+            38
+        )
+    );
+    assert!(rt;
+        is_bad(
+            alloc,
+            b"  lrwxrwxrwx 1 u g 0 1970-01-01 00:00 a -> \xff",
+            Field::Target,
+            43
+        )
+    );
+    assert!(rt;
+        is_bad(
+            alloc,
+            b"  -rw-r--r-- 1 \xff g 0 1970-01-01 00:00 a",
+            Field::Owner,
+            15
+        )
+    );
 }
 
 // Whether the text is read as this mark and line.
@@ -250,14 +334,49 @@ fn reads_as(alloc: Global, text: &str, mark: u8, want: &Line) -> bool {
 fn lines_are_read(rt: HostRuntime) -> Result<(), Fail> {
     let alloc = rt.alloc();
     let plain = file(alloc, 0, 0, "a")?;
-    assert!(rt; reads_as(alloc, "  -rw-r--r-- 1 u g 0 1970-01-01 00:00 a", b' ', &plain));
-    assert!(rt; reads_as(alloc, "D -rw-r--r--   1  u    g     0 1970-01-01 00:00 a", b'D', &plain));
+    assert!(rt;
+        reads_as(
+            alloc,
+            "  -rw-r--r-- 1 u g 0 1970-01-01 00:00 a",
+            b' ',
+            &plain
+        )
+    );
+    assert!(rt;
+        reads_as(
+            alloc,
+            "D -rw-r--r--   1  u    g     0 1970-01-01 00:00 a",
+            b'D',
+            &plain
+        )
+    );
     let spaced = file(alloc, 0, 0, " a ")?;
-    assert!(rt; reads_as(alloc, "~ -rw-r--r-- 1 u g 0 1970-01-01 00:00  a ", b'~', &spaced));
+    assert!(rt;
+        reads_as(
+            alloc,
+            "~ -rw-r--r-- 1 u g 0 1970-01-01 00:00  a ",
+            b'~',
+            &spaced
+        )
+    );
     let odd = file(alloc, 18_446_744_073_709_551_615, 0, "n\n\\\r -> x")?;
-    assert!(rt; reads_as(alloc, "  -rw-r--r-- 1 u g 18446744073709551615 1970-01-01 00:00 n\\n\\\\\\015 -> x", b' ', &odd));
+    assert!(rt;
+        reads_as(
+            alloc,
+            "  -rw-r--r-- 1 u g 18446744073709551615 1970-01-01 00:00 n\\n\\\\\\015 -> x",
+            b' ',
+            &odd
+        )
+    );
     let link = line(alloc, Kind::Link, 0o777, 1, 0, "a ->", " b -> c")?;
-    assert!(rt; reads_as(alloc, "  lrwxrwxrwx 1 u g 1 1970-01-01 00:00 a -\\076 ->  b -> c", b' ', &link));
+    assert!(rt;
+        reads_as(
+            alloc,
+            "  lrwxrwxrwx 1 u g 1 1970-01-01 00:00 a -\\076 ->  b -> c",
+            b' ',
+            &link
+        )
+    );
     let dir = line(alloc, Kind::Dir, 0o1777, 1, 0, "t", "")?;
     assert!(rt; reads_as(alloc, "* drwxrwxrwt 1 u g 1 1970-01-01 00:00 t", b'*', &dir));
     Ok(())
@@ -333,8 +452,20 @@ fn switches_are_read(rt: HostRuntime) {
     assert_eq!(rt; read_switches("-l"), Some(none));
     assert_eq!(rt; read_switches("-lll"), Some(none));
     assert_eq!(rt; read_switches("-AltSr"), Some(all));
-    assert_eq!(rt; read_switches("-t"), Some(Switches { by_time: true, ..none }));
-    assert_eq!(rt; read_switches("-S"), Some(Switches { by_size: true, ..none }));
+    assert_eq!(rt;
+        read_switches("-t"),
+        Some(Switches {
+            by_time: true,
+            ..none
+        })
+    );
+    assert_eq!(rt;
+        read_switches("-S"),
+        Some(Switches {
+            by_size: true,
+            ..none
+        })
+    );
     for text in ["", "-", "l", "--l", "-a", "-l ", " -l", "-lA-", "-s", "-T"] {
         assert_eq!(rt; read_switches(text), None, "{text}");
     }

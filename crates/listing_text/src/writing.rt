@@ -83,7 +83,12 @@ fn push_total(alloc: Global, text: &mut Vec<u8>, count: usize) -> Result<(), Mem
 
 // Pushes lines, each with its newline.
 #[tactic(auto, unfolding(crate::specs::Listed::lines_text))]
-fn push_lines(alloc: Global, text: &mut Vec<u8>, lines: &[(u8, Line)], widths: &Widths) -> Result<(), Memory>
+fn push_lines(
+    alloc: Global,
+    text: &mut Vec<u8>,
+    lines: &[(u8, Line)],
+    widths: &Widths,
+) -> Result<(), Memory>
     ensures { OnOk result (text.new.items ≡ text.old.items ++ lines_text widths.now lines.now) }
 {
     for (mark, line) in lines {
@@ -94,7 +99,13 @@ fn push_lines(alloc: Global, text: &mut Vec<u8>, lines: &[(u8, Line)], widths: &
 }
 
 #[tactic(auto, unfolding(crate::specs::Listed::line_text_of))]
-fn push_line(alloc: Global, text: &mut Vec<u8>, mark: u8, line: &Line, widths: &Widths) -> Result<(), Memory>
+fn push_line(
+    alloc: Global,
+    text: &mut Vec<u8>,
+    mark: u8,
+    line: &Line,
+    widths: &Widths,
+) -> Result<(), Memory>
     ensures { OnOk result (text.new.items ≡ text.old.items ++ line_text_of mark line.now widths.now) }
 {
     push_start(text, mark, line)?;
