@@ -5,4 +5,5 @@ pub mod MemOutside
 pub mod Modes
 pub mod Outside
 pub mod Paths
+pub mod Patterns
 pub mod Resolve

@@ -3,6 +3,7 @@ use Rattle.std.specs.Prelude.{ℕ, ◌==◌, Bool, List, Option, find}
 use Rattle.std.specs.List.{list_any}
 use Rattle.std.specs.Str.{bytes_eq}
 use Rattle.std.specs.Option.{option_map}
+use Rattle.dired_text.specs.declared.mem_patterns.MemPatterns.{MemPatterns}
 use Rattle.dired_text.specs.declared.mem_shelf.MemShelf.{MemShelf}
 use Rattle.dired_text.specs.declared.mem_sink.MemSink.{MemSink}
 
@@ -46,3 +47,13 @@ sink_faults sink = sink.faults
 -- how many calls failed for want of memory
 abbrev pub sink_short : MemSink → ℕ
 sink_short sink = sink.short
+
+abbrev pub patterns_schedule : MemPatterns → List ℕ
+patterns_schedule patterns = patterns.fail.items
+
+-- how many calls came so far
+abbrev pub patterns_calls : MemPatterns → ℕ
+patterns_calls patterns = patterns.calls
+
+abbrev pub patterns_refusals : MemPatterns → ℕ
+patterns_refusals patterns = patterns.refusals

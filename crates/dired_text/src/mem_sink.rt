@@ -57,7 +57,7 @@ impl Sink for MemSink {
 
     ghost faults = { sink_faults };
 
-    ghost MayFail = { λ old new. (IsTrue (is_scheduled (sink_schedule old) (sink_calls old))) ⊎ (Rose (sink_short old) (sink_short new)) };
+    ghost MayFail = { λ old new. ((IsTrue (is_scheduled (sink_schedule old) (sink_calls old))) × (sink_taken new ≡ sink_taken old)) ⊎ (Rose (sink_short old) (sink_short new)) };
 
     fn put(&mut self, piece: &[u8]) -> Result<(), Failed> {
         let number = self.calls;

@@ -77,6 +77,15 @@ impl Path {
         &self.names
     }
 
+    /// The path of this name in the directory, or None where it would have more than 4,095 bytes.
+    pub fn child(&self, name: &Name) -> Result<Option<Self>, Memory>
+        ensures { IfOk result (λ found. found ≡ (if nat_le (path_bytes (self.now ++ name.now ∷ [])) max_path_bytes then Some (self.now ++ name.now ∷ []) else None)) }
+    {
+        let mut names = copy_names(*self.names.allocator(), &self.names)?;
+        names.push(name.copy()?)?;
+        Ok(Self::from_names(names))
+    }
+
     /// The names joined by `/`, which for the root is the empty text.
     pub fn text(&self) -> Result<Text, Memory>
         ensures { IfOk result (λ t. t ≡ joined self.now) }

@@ -46,6 +46,34 @@ fn the_shelf_reads_and_fails_as_scheduled(rt: HostRuntime) -> Result<(), Fail> {
     Ok(())
 }
 
+fn builds_as<P: Patterns>(
+    patterns: &mut P,
+    alloc: Global,
+    text: &str,
+    want: Option<PatternsError>,
+) -> bool {
+    match (patterns.build(alloc, text), want) {
+        (Ok(pattern), None) => pattern.as_str() == text,
+        (Err(error), Some(want)) => error == want,
+        _ => false,
+    }
+}
+
+#[test]
+fn patterns_are_built_and_refused_as_scheduled(rt: HostRuntime) -> Result<(), Fail> {
+    let alloc = rt.alloc();
+    let mut patterns = MemPatterns::new(alloc, vec![in alloc; 1]?)?;
+    for (text, want) in [
+        ("a*", None),
+        ("b", Some(PatternsError::Refused)),
+        ("(", Some(PatternsError::Refused)),
+        ("b", None),
+    ] {
+        assert!(rt; builds_as(&mut patterns, alloc, text, want), "{text}");
+    }
+    Ok(())
+}
+
 fn takes<K: Sink>(sink: &mut K, piece: &str) -> bool {
     sink.put(piece.as_bytes()).is_ok()
 }
