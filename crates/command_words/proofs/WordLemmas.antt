@@ -6,10 +6,9 @@ use Rattle.clap.specs.Words.{App, Row, Kinds, fault_of, matches_of, first_of, al
 use Rattle.clap.proofs.WalkLemmas.{first_value-rows, raw_values-rows}
 use Rattle.clap.specs.declared.parser.matches.Found.{Found}
 use Rattle.command_words.specs.declared.command.Command.{Command}
-use Rattle.command_words.specs.declared.command.Dir.{Dir}
 use Rattle.command_words.specs.declared.command.WordsFault.{WordsFault}
 use Rattle.command_words.specs.declared.command.WordsFault.TheVariants.{Usage}
-use Rattle.command_words.specs.Commands.{is_empty, asked_by, dirs_of, path_of, with_dir}
+use Rattle.command_words.specs.Commands.{is_empty, asked_by, paths_of, in_front_of}
 
 pub first_by_rows : (f : Found) (id : List ℕ) → first_value f id ≡ first_of id (rows_of f)
 first_by_rows f id = first_value-rows f id
@@ -32,26 +31,22 @@ unfolding asked_by
 asked_refused app a read words same some = rw (← same, some_faults (fault_of app words) some) refl
 
 -- these in front of the later ones
-abbrev pub with_dirs : List Dir → Result (List Dir) WordsFault → Result (List Dir) WordsFault
-with_dirs dirs (Ok later) = Ok (dirs ++ later)
-with_dirs dirs (Err e) = Err e
-
-pub with_dirs-nil : (later : Result (List Dir) WordsFault) → with_dirs [] later ≡ later
-with_dirs-nil (Ok later) = refl
-with_dirs-nil (Err e) = refl
+abbrev pub with_paths : List Names → Result (List Names) WordsFault → Result (List Names) WordsFault
+with_paths paths (Ok later) = Ok (paths ++ later)
+with_paths paths (Err e) = Err e
 
 -- a command that is simple and free is simple
 pub simple : (a : App) → is_simple_and_free a ≡ true → is_simple a ≡ true
 simple a both = (and_parts (is_simple a) _ both).0
 
--- one more directory
-pub dirs-more : (dirs : List Dir) (word : List ℕ) (path : Names) (words : List (List ℕ)) → path_of word ≡ Ok path → with_dirs dirs (dirs_of (word ∷ words)) ≡ with_dirs (dirs ++ record { word = word; path = path } ∷ []) (dirs_of words)
-dirs-more dirs word path words e = rw e (go (dirs_of words))
+-- one more path
+pub paths-more : (named : List ℕ → Result Names WordsFault) (paths : List Names) (word : List ℕ) (path : Names) (words : List (List ℕ)) → named word ≡ Ok path → with_paths paths (paths_of named (word ∷ words)) ≡ with_paths (paths ++ path ∷ []) (paths_of named words)
+paths-more named paths word path words e = rw e (go (paths_of named words))
   where
-    go : (later : Result (List Dir) WordsFault) → with_dirs dirs (with_dir word (Ok path) later) ≡ with_dirs (dirs ++ record { word = word; path = path } ∷ []) later
-    go (Ok later) = ap Ok (sym (append_assoc dirs (record { word = word; path = path } ∷ []) later))
+    go : (later : Result (List Names) WordsFault) → with_paths paths (in_front_of (Ok path) later) ≡ with_paths (paths ++ path ∷ []) later
+    go (Ok later) = ap Ok (sym (append_assoc paths (path ∷ []) later))
     go (Err e) = refl
 
--- a word that names no directory
-pub dirs-refused : (dirs : List Dir) (word : List ℕ) (fault : WordsFault) (words : List (List ℕ)) → path_of word ≡ Err fault → with_dirs dirs (dirs_of (word ∷ words)) ≡ Err fault
-dirs-refused dirs word fault words e = rw e refl
+-- a word that names no path
+pub paths-refused : (named : List ℕ → Result Names WordsFault) (paths : List Names) (word : List ℕ) (fault : WordsFault) (words : List (List ℕ)) → named word ≡ Err fault → with_paths paths (paths_of named (word ∷ words)) ≡ Err fault
+paths-refused named paths word fault words e = rw e refl

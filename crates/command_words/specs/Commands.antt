@@ -11,7 +11,6 @@ use Rattle.clap.specs.Simple.{on_top}
 use Rattle.clap.specs.declared.builder.action.ArgAction.TheVariants.{Set, Append, SetTrue}
 use Rattle.command_words.specs.declared.command.Command.{Command}
 use Rattle.command_words.specs.declared.command.Command.TheVariants.{Commit, List as Lists}
-use Rattle.command_words.specs.declared.command.Dir.{Dir}
 use Rattle.command_words.specs.declared.command.WordsFault.{WordsFault}
 use Rattle.command_words.specs.declared.command.WordsFault.TheVariants.{Usage, Memory}
 
@@ -39,26 +38,10 @@ is_empty (x ∷ xs) = false
 unfoldable pub asked_by : App → (List Row → Result Command WordsFault) → List (List ℕ) → Result Command WordsFault
 asked_by app read words = if is_empty (fault_of app words) then read (matches_of app words) else Err Usage
 
--- ---- `commit BEFORE AFTER`
-
-abbrev pub commit_app : App
-commit_app = with_rule (with_rule (plain_app (codes "commit")) (one_word (codes "BEFORE"))) (one_word (codes "AFTER"))
-
-abbrev pub named_buffers : Option (List ℕ) → Option (List ℕ) → Result Command WordsFault
-named_buffers (Some before) (Some after) = Ok (Commit before after)
-named_buffers (Some before) None = Err Usage
-named_buffers None after = Err Usage
-
-abbrev pub commit_by : List Row → Result Command WordsFault
-commit_by rows = named_buffers (first_of (codes "BEFORE") rows) (first_of (codes "AFTER") rows)
-
--- ---- `list [-A] [-l] [-t] [-S] [-r] [DIR]...`
-
-abbrev pub list_app : App
-list_app =
-    with_rule (with_rule (with_rule (with_rule (with_rule (with_rule (plain_app (codes "list"))
-    (flag_rule (codes "all") 65)) (flag_rule (codes "long") 108)) (flag_rule (codes "time") 116)) (flag_rule (codes "size") 83)) (flag_rule (codes "reverse") 114))
-    (more_words (codes "DIR"))
+-- the words of an argument
+abbrev pub words_or_none : Option (List (List ℕ)) → List (List ℕ)
+words_or_none None = []
+words_or_none (Some words) = words
 
 abbrev pub is_true : Option (List ℕ) → Bool
 is_true None = false
@@ -67,6 +50,63 @@ is_true (Some value) = bytes_eq value (codes "true")
 -- whether a flag was given
 abbrev pub is_set : List ℕ → List Row → Bool
 is_set id rows = is_true (first_of id rows)
+
+-- ---- paths
+
+-- a path that was found, or a refusal of the words. Want of memory stays what it is
+abbrev pub by_name : Result Names NameError → Result Names WordsFault
+by_name (Ok path) = Ok path
+by_name (Err name_error.Memory) = Err Memory
+by_name (Err e) = Err Usage
+
+-- the path that a word names from the root
+abbrev pub path_named : List ℕ → Result Names WordsFault
+path_named word = by_name (resolved [] word)
+
+-- the directory that a word names, where `.` is the root
+abbrev pub dir_named : List ℕ → Result Names WordsFault
+dir_named word = if bytes_eq word (codes ".") then Ok [] else path_named word
+
+abbrev pub in_front_of : Result Names WordsFault → Result (List Names) WordsFault → Result (List Names) WordsFault
+in_front_of (Ok path) (Ok paths) = Ok (path ∷ paths)
+in_front_of (Ok path) (Err e) = Err e
+in_front_of (Err e) paths = Err e
+
+-- the paths that words name, or the first refusal
+abbrev pub paths_of : (List ℕ → Result Names WordsFault) → List (List ℕ) → Result (List Names) WordsFault
+paths_of named [] = Ok []
+paths_of named (word ∷ words) = in_front_of (named word) (paths_of named words)
+
+-- ---- `commit [--all] BEFORE AFTER [CONFIRMED]...`
+
+-- a flag with a name
+abbrev pub named_flag : List ℕ → Rule
+named_flag id = record (new_rule id) { long = Some id; action = Some SetTrue }
+
+abbrev pub commit_app : App
+commit_app =
+    with_rule (with_rule (with_rule (with_rule (plain_app (codes "commit"))
+    (named_flag (codes "all"))) (one_word (codes "BEFORE"))) (one_word (codes "AFTER")))
+    (more_words (codes "CONFIRMED"))
+
+abbrev pub commit_asked : Bool → Option (List ℕ) → Option (List ℕ) → Result (List Names) WordsFault → Result Command WordsFault
+commit_asked all (Some before) (Some after) (Ok confirmed) = Ok (Commit all before after confirmed)
+commit_asked all (Some before) (Some after) (Err e) = Err e
+commit_asked all (Some before) None confirmed = Err Usage
+commit_asked all None after confirmed = Err Usage
+
+abbrev pub commit_by : List Row → Result Command WordsFault
+commit_by rows =
+    commit_asked (is_set (codes "all") rows) (first_of (codes "BEFORE") rows) (first_of (codes "AFTER") rows)
+    (paths_of path_named (words_or_none (all_of (codes "CONFIRMED") rows)))
+
+-- ---- `list [-A] [-l] [-t] [-S] [-r] [DIR]...`
+
+abbrev pub list_app : App
+list_app =
+    with_rule (with_rule (with_rule (with_rule (with_rule (with_rule (plain_app (codes "list"))
+    (flag_rule (codes "all") 65)) (flag_rule (codes "long") 108)) (flag_rule (codes "time") 116)) (flag_rule (codes "size") 83)) (flag_rule (codes "reverse") 114))
+    (more_words (codes "DIR"))
 
 -- without a flag the listing is made as with `-A` and `-l`
 abbrev pub switches_by : List Row → Switches
@@ -77,35 +117,12 @@ switches_by rows = record {
   reverse = is_set (codes "reverse") rows;
 }
 
--- a path that was found, or a refusal of the words. Want of memory stays what it is
-abbrev pub by_name : Result Names NameError → Result Names WordsFault
-by_name (Ok path) = Ok path
-by_name (Err name_error.Memory) = Err Memory
-by_name (Err e) = Err Usage
-
--- the directory that a word names from the root, which is `.`
-abbrev pub path_of : List ℕ → Result Names WordsFault
-path_of word = if bytes_eq word (codes ".") then Ok [] else by_name (resolved [] word)
-
-abbrev pub with_dir : List ℕ → Result Names WordsFault → Result (List Dir) WordsFault → Result (List Dir) WordsFault
-with_dir word (Ok path) (Ok dirs) = Ok (record { word = word; path = path } ∷ dirs)
-with_dir word (Ok path) (Err e) = Err e
-with_dir word (Err e) dirs = Err e
-
-abbrev pub dirs_of : List (List ℕ) → Result (List Dir) WordsFault
-dirs_of [] = Ok []
-dirs_of (word ∷ words) = with_dir word (path_of word) (dirs_of words)
-
-abbrev pub words_or_none : Option (List (List ℕ)) → List (List ℕ)
-words_or_none None = []
-words_or_none (Some words) = words
-
-abbrev pub listing_asked : Switches → Result (List Dir) WordsFault → Result Command WordsFault
-listing_asked switches (Ok dirs) = Ok (Lists switches dirs)
-listing_asked switches (Err e) = Err e
+abbrev pub list_asked : Switches → Result (List Names) WordsFault → Result Command WordsFault
+list_asked switches (Ok dirs) = Ok (Lists switches dirs)
+list_asked switches (Err e) = Err e
 
 abbrev pub list_by : List Row → Result Command WordsFault
-list_by rows = listing_asked (switches_by rows) (dirs_of (words_or_none (all_of (codes "DIR") rows)))
+list_by rows = list_asked (switches_by rows) (paths_of dir_named (words_or_none (all_of (codes "DIR") rows)))
 
 -- ---- the commands
 

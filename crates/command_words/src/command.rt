@@ -10,48 +10,47 @@ use std::marker::Model;
 #[derive(Debug, Drop)]
 pub enum Command {
     /// Print a listing: the section of the root and one of each of these directories.
-    List { switches: Switches, dirs: Dirs },
-    /// Carry out what AFTER, the edited listing, asks for against BEFORE, the listing as printed: the names of two inputs.
-    Commit { before: Text, after: Text },
+    List { switches: Switches, dirs: Paths },
+    /// Carry out what AFTER, the edited listing, asks for against BEFORE, the listing as printed.
+    Commit {
+        /// Whether every file that an edit replaces is confirmed.
+        all: bool,
+        /// The names of the two inputs.
+        before: Text,
+        after: Text,
+        /// The files that may be replaced.
+        confirmed: Paths,
+    },
 }
 
-/// A directory that is asked for.
-#[derive(Debug, PartialEq, Eq, Drop)]
-pub struct Dir {
-    /// The word as it was given.
-    pub word: Text,
-    /// The path that it names from the root.
-    pub path: Path,
-}
-
-/// The directories that are asked for, in the order of the words.
+/// Paths, in the order of the words.
 #[derive(Debug, Drop)]
-pub struct Dirs {
-    dirs: Vec<Dir>,
+pub struct Paths {
+    paths: Vec<Path>,
 }
 
-impl Model for Dirs {
+impl Model for Paths {
     ghost use Rattle.std.specs.Prelude.{List};
-    ghost use Rattle.command_words.specs.declared.command.Dir.{Dir};
+    ghost use Rattle.dired_text.specs.Paths.{Names};
 
-    ghost Value = { List Dir };
+    ghost Value = { List Names };
 
-    ghost view = { λ d. d.dirs.items };
+    ghost view = { λ p. p.paths.items };
 }
 
-impl Dirs {
+impl Paths {
     /// Takes a list over, without memory.
-    pub fn from_vec(dirs: Vec<Dir>) -> Self
-        ensures { result ≡ dirs.items }
+    pub fn from_vec(paths: Vec<Path>) -> Self
+        ensures { result ≡ paths.items }
     {
-        Dirs { dirs }
+        Paths { paths }
     }
 
-    /// The directories.
-    pub fn as_slice(&self) -> &[Dir]
+    /// The paths.
+    pub fn as_slice(&self) -> &[Path]
         ensures { result.now ≡ self.now }
     {
-        &self.dirs
+        &self.paths
     }
 }
 

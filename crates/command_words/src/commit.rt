@@ -3,15 +3,16 @@ ghost use Rattle.std.specs.Prelude.{◌≡◌, map, string_bytes, IfOk};
 ghost use Rattle.dired_text.specs.Answers.{IsOrMemory};
 ghost use Rattle.clap.specs.Words.{app_of, rows_of, found_of};
 ghost use Rattle.command_words.specs.declared.command.WordsFault.TheVariants.{Memory as memory};
-ghost use Rattle.command_words.specs.Commands.{asked_by, commit_app, commit_by as commit_by_rows};
+ghost use Rattle.command_words.specs.Commands.{asked_by, commit_app, commit_by as commit_by_rows, paths_of, path_named};
 
-use crate::matching::{first_value, matched};
-use crate::{Command, WordsFault};
+use crate::matching::{all_values, first_value, is_set, matched};
+use crate::paths::path_named_by;
+use crate::{Command, Paths, WordsFault};
 use clap::{Arg, ArgAction, ArgMatches};
 use dired_text::Text;
 use std::alloc::{AllocError, Global};
 
-/// What the words behind `commit` ask for: `BEFORE AFTER`.
+/// What the words behind `commit` ask for: `[--all] BEFORE AFTER [CONFIRMED]...`.
 pub fn read_commit(alloc: Global, words: &[String]) -> Result<Command, WordsFault>
     ensures { IsOrMemory memory (asked_by commit_app commit_by_rows (map string_bytes words.now)) result }
 {
@@ -33,8 +34,10 @@ fn definition<'a>(alloc: Global) -> Result<clap::Command<'a>, AllocError>
         .no_binary_name(true)
         .disable_help_flag(true)
         .disable_version_flag(true)
+        .arg(Arg::new(alloc, "all").long("all").action(ArgAction::SetTrue))?
         .arg(before)?
-        .arg(after)
+        .arg(after)?
+        .arg(Arg::new(alloc, "CONFIRMED").action(ArgAction::Append))
 }
 
 // What the values of the command's arguments ask for.
@@ -47,8 +50,22 @@ fn commit_by(alloc: Global, matches: &ArgMatches<'_>) -> Result<Command, WordsFa
     ) else {
         return Err(WordsFault::Usage);
     };
+    let words = all_values(matches, "CONFIRMED").unwrap_or(&[]);
     Ok(Command::Commit {
+        all: is_set(matches, "all"),
         before: Text::copy_of(alloc, before)?,
         after: Text::copy_of(alloc, after)?,
+        confirmed: confirmed_by(alloc, words)?,
     })
+}
+
+// The files that these words name.
+fn confirmed_by(alloc: Global, words: &[&str]) -> Result<Paths, WordsFault>
+    ensures { IsOrMemory memory (paths_of path_named (map (λ w. w.now) words.now)) result }
+{
+    let mut paths = Vec::new(alloc);
+    for word in words {
+        paths.push(path_named_by(alloc, word)?)?;
+    }
+    Ok(Paths::from_vec(paths))
 }

@@ -5,9 +5,10 @@ mod command;
 mod commit;
 mod list;
 mod matching;
+mod paths;
 mod reading;
 #[cfg(test)]
 mod tests;
 
-pub use command::{Command, Dir, Dirs, WordsFault};
+pub use command::{Command, Paths, WordsFault};
 pub use reading::read_words;

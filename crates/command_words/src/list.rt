@@ -3,12 +3,13 @@ ghost use Rattle.std.specs.Prelude.{◌≡◌, false, map, string_bytes, IfOk};
 ghost use Rattle.dired_text.specs.Answers.{IsOrMemory};
 ghost use Rattle.clap.specs.Words.{app_of, rows_of, found_of, with_rule};
 ghost use Rattle.command_words.specs.declared.command.WordsFault.TheVariants.{Memory as memory};
-ghost use Rattle.command_words.specs.Commands.{asked_by, flag_rule, more_words, list_app, list_by as list_by_rows, is_set as is_set_in, switches_by as switches_by_rows, dirs_of as dirs_of_words, path_of as path_of_word, by_name as by_name_of};
+ghost use Rattle.command_words.specs.Commands.{asked_by, flag_rule, more_words, list_app, list_by as list_by_rows, switches_by as switches_by_rows, paths_of, dir_named};
 
-use crate::matching::{all_values, first_value, matched};
-use crate::{Command, Dir, Dirs, WordsFault};
+use crate::matching::{all_values, is_set, matched};
+use crate::paths::path_named_by;
+use crate::{Command, Paths, WordsFault};
 use clap::{Arg, ArgAction, ArgMatches};
-use dired_text::{NameError, Path, Text, resolve};
+use dired_text::Path;
 use listing_text::Switches;
 use std::alloc::{AllocError, Global};
 
@@ -88,47 +89,23 @@ fn switches_by(matches: &ArgMatches<'_>) -> Switches
     }
 }
 
-// Whether a flag was given.
-fn is_set(matches: &ArgMatches<'_>, id: &str) -> bool
-    ensures { result ≡ is_set_in id.now (rows_of (found_of matches.now)) }
-{
-    match first_value(matches, id) {
-        Some(value) => value == "true",
-        None => false,
-    }
-}
-
 // The directories that these words name.
-fn dirs_of(alloc: Global, words: &[&str]) -> Result<Dirs, WordsFault>
-    ensures { IsOrMemory memory (dirs_of_words (map (λ w. w.now) words.now)) result }
+fn dirs_of(alloc: Global, words: &[&str]) -> Result<Paths, WordsFault>
+    ensures { IsOrMemory memory (paths_of dir_named (map (λ w. w.now) words.now)) result }
 {
     let mut dirs = Vec::new(alloc);
     for word in words {
-        dirs.push(Dir {
-            word: Text::copy_of(alloc, word)?,
-            path: path_of(alloc, word)?,
-        })?;
+        dirs.push(dir_named_by(alloc, word)?)?;
     }
-    Ok(Dirs::from_vec(dirs))
+    Ok(Paths::from_vec(dirs))
 }
 
 // The directory that a word names from the root, which is `.`.
-fn path_of(alloc: Global, word: &str) -> Result<Path, WordsFault>
-    ensures { IsOrMemory memory (path_of_word word.now) result }
+fn dir_named_by(alloc: Global, word: &str) -> Result<Path, WordsFault>
+    ensures { IsOrMemory memory (dir_named word.now) result }
 {
     if word == "." {
         return Ok(Path::root(alloc));
     }
-    by_name(resolve(alloc, &Path::root(alloc), word))
-}
-
-// A path that was found, or a refusal of the words.
-fn by_name(found: Result<Path, NameError>) -> Result<Path, WordsFault>
-    ensures { result ≡ by_name_of found }
-{
-    match found {
-        Ok(path) => Ok(path),
-        Err(NameError::Memory) => Err(WordsFault::Memory),
-        Err(_) => Err(WordsFault::Usage),
-    }
+    path_named_by(alloc, word)
 }

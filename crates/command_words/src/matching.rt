@@ -2,6 +2,7 @@
 ghost use Rattle.std.specs.Prelude.{◌≡◌, ◌⊎◌, ◌≢◌, true, map, string_bytes, IfOk, IfErr, [], option_map};
 ghost use Rattle.clap.specs.Words.{app_of, fault_of, matches_of, rows_of, found_of, first_of, all_of, is_simple_and_free};
 ghost use Rattle.command_words.specs.declared.command.WordsFault.TheVariants.{Usage, Memory as memory};
+ghost use Rattle.command_words.specs.Commands.{is_set as is_set_in};
 
 use crate::WordsFault;
 use clap::{ArgMatches, Command};
@@ -36,4 +37,14 @@ pub fn all_values<'m, 'a>(matches: &'m ArgMatches<'a>, id: &str) -> Option<&'m [
     ensures { option_map (λ vs. map (λ v. v.now) vs.now) result ≡ all_of id.now (rows_of (found_of matches.now)) }
 {
     matches.get_raw(id)
+}
+
+/// Whether a flag was given.
+pub fn is_set(matches: &ArgMatches<'_>, id: &str) -> bool
+    ensures { result ≡ is_set_in id.now (rows_of (found_of matches.now)) }
+{
+    match first_value(matches, id) {
+        Some(value) => value == "true",
+        None => false,
+    }
 }

@@ -1,5 +1,6 @@
 // The words of command lines, by examples.
 use crate::{Command, WordsFault, read_words};
+use dired_text::Path;
 use std::alloc::Global;
 use std::test::Fail;
 
@@ -10,24 +11,40 @@ fn shown(alloc: Global, text: &str) -> Result<String, Fail> {
         words.push(String::from_str(alloc, word)?)?;
     }
     match read_words(alloc, &words) {
-        Ok(Command::Commit { before, after }) => {
-            Ok(format!(in alloc; "{} to {}", before.as_str(), after.as_str())?)
+        Ok(Command::Commit {
+            all,
+            before,
+            after,
+            confirmed,
+        }) => {
+            let mut line = format!(in alloc; "{} to {}", before.as_str(), after.as_str())?;
+            if all {
+                line.push_str(" all")?;
+            }
+            push_paths(&mut line, confirmed.as_slice())?;
+            Ok(line)
         }
         Ok(Command::List { switches: s, dirs }) => {
             let mut line = format!(in alloc;
                 "{} {} {} {}",
                 s.all, s.by_time, s.by_size, s.reverse
             )?;
-            for dir in dirs.as_slice() {
-                let path = dir.path.text()?;
-                line.push_str(" ")?;
-                line.push_str(path.as_str())?;
-            }
+            push_paths(&mut line, dirs.as_slice())?;
             Ok(line)
         }
         Err(WordsFault::Usage) => Ok(String::from_str(alloc, "usage")?),
         Err(WordsFault::Memory) => Ok(String::from_str(alloc, "memory")?),
     }
+}
+
+// Pushes paths, each behind a space.
+fn push_paths(line: &mut String, paths: &[Path]) -> Result<(), Fail> {
+    for path in paths {
+        let text = path.text()?;
+        line.push_str(" ")?;
+        line.push_str(text.as_str())?;
+    }
+    Ok(())
 }
 
 #[test]
@@ -36,7 +53,11 @@ fn reads_words(rt: HostRuntime) -> Result<(), Fail> {
         ("", "usage"),
         ("commit B A", "B to A"),
         ("commit B", "usage"),
-        ("commit B A K", "usage"),
+        ("commit B A K ./l/m", "B to A K l/m"),
+        ("commit --all B A", "B to A all"),
+        ("commit B A k --all", "B to A all k"),
+        ("commit --all --all B A", "usage"),
+        ("commit B A .", "usage"),
         ("commit", "usage"),
         ("commit -x B A", "usage"),
         ("commit -- -x -y", "-x to -y"),

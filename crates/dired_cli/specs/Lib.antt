@@ -5,4 +5,3 @@ pub mod Runs
 pub mod Statuses
 pub mod Verdicts
 pub mod WellFormed
-pub mod Words

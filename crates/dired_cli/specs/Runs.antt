@@ -1,40 +1,50 @@
 -- What a run does, as a function of its words, its inputs and the tree that it finds.
 use Rattle.std.specs.Prelude.{◌≡◌, ℕ, Bool, true, false, List, Option, Some, None, Result, Ok, Err}
 use Rattle.dired_text.specs.Counts.{raised}
+use Rattle.dired_text.specs.Paths.{Names}
 use Rattle.tree_core.specs.declared.faults.Faults.{Faults}
+use Rattle.tree_core.specs.declared.meta.Meta.{Meta}
 use Rattle.tree_core.specs.FileTree.{FileTree}
 use Rattle.tree_core.specs.History.{History, current_tree, IsDurable}
 use Rattle.tree_core.specs.Faults.{with_fault}
-use Rattle.dired_cli.specs.declared.commit.NameChange.{NameChange}
+use Rattle.command_words.specs.declared.command.Command.{Command}
+use Rattle.command_words.specs.declared.command.Command.TheVariants as command
+use Rattle.command_words.specs.declared.command.WordsFault.{WordsFault}
+use Rattle.command_words.specs.declared.command.WordsFault.TheVariants as words_fault
+use Rattle.command_words.specs.Commands.{command_of}
+use Rattle.subdir_list.specs.Listings.{first_other}
+use Rattle.dired_cli.specs.declared.requests.Request.{Request}
 use Rattle.dired_cli.specs.declared.status.Status.{Status}
 use Rattle.dired_cli.specs.declared.status.Status.TheVariants.{Done, Usage, Memory, ReadFault, TreeFault, WriteFault}
 use Rattle.dired_cli.specs.Inputs.{Files}
-use Rattle.dired_cli.specs.Words.{buffers_of}
 use Rattle.dired_cli.specs.Requests.{request_of}
 use Rattle.dired_cli.specs.Statuses.{text_of, ByCause}
-use Rattle.dired_cli.specs.Verdicts.{Verdict, Refuses, on_tree, status_of, summary_of, edited, FaultLeaves}
+use Rattle.dired_cli.specs.Verdicts.{Verdict, Refuses, IsOutput, on_tree, on_dirs, status_of, edited, FaultLeaves}
 
-abbrev pub of_request : Result (Option NameChange) Status → FileTree → Verdict
+abbrev pub of_request : Result Request Status → FileTree → Verdict
 of_request (Err status) t = Refuses status
-of_request (Ok asked) t = on_tree asked t
+of_request (Ok request) t = on_tree request t
 
-abbrev pub of_words : Option (List ℕ × List ℕ) → Files → FileTree → Verdict
-of_words None files t = Refuses Usage
-of_words (Some names) files t = of_request (request_of files names.0 names.1) t
+abbrev pub of_command : Result Command WordsFault → Files → FileTree → Verdict
+of_command (Err words_fault.Usage) files t = Refuses Usage
+of_command (Err words_fault.Memory) files t = Refuses Memory
+of_command (Ok (command.Commit all before after confirmed)) files t = of_request (request_of files before after) t
+of_command (Ok (command.List switches dirs)) files t = on_dirs switches dirs (first_other t dirs)
 
--- The first refusal, in the order of words, inputs, lines and tree, or what is to become of the tree.
+-- The first refusal, in the order of words, inputs, lines and tree, or what is to become of the tree, or its listing.
 abbrev pub verdict : List (List ℕ) → Files → FileTree → Verdict
-verdict words files t = of_words (buffers_of words) files t
+verdict words files t = of_command (command_of words) files t
 
--- the last line of a run that decided this status: the summary at Done, else the text of the status
-abbrev pub line_of : Verdict → Status → List ℕ
-line_of verdict Done = summary_of verdict
-line_of verdict status = text_of status
+-- what a run writes last that decided this status: at Done the output of the command, else the text of the status
+abbrev pub IsText : Verdict → FileTree → (Names → Meta) → Status → List ℕ → Type 0
+IsText verdict t fields Done text = IsOutput verdict t fields text
+IsText verdict t fields status text = text ≡ text_of status
 
--- What is known of the outside at the start and at the end of a run: the history of the tree, its failed calls and the tree
--- that the last one found, how many reads failed and the name of the last.
+-- What is known of the outside at the start and at the end of a run: the history of the tree, the fields that it shows, its
+-- failed calls and the tree that the last one found, how many reads failed and the name of the last.
 pub record Outside : Type 0 where
   pub history : History
+  pub fields : Names → Meta
   pub tree_faults : Faults
   pub found : FileTree
   pub read_faults : ℕ

@@ -6,9 +6,13 @@ use Rattle.tree_core.specs.declared.node.CallName.TheVariants.{Kind, Mode, IsEmp
 use Rattle.wdired_buffer.specs.declared.faults.LineCause.{LineCause}
 use Rattle.wdired_buffer.specs.declared.faults.LineCause.TheVariants as cause
 use Rattle.dired_cli.specs.declared.status.Counted.{Counted}
-use Rattle.dired_cli.specs.declared.status.Counted.TheVariants.{BufferBytes}
+use Rattle.listing_text.specs.declared.faults.Field.{Field}
+use Rattle.listing_text.specs.declared.faults.Field.TheVariants as field
+use Rattle.wdired_buffer.specs.declared.faults.BufferCause.{BufferCause}
+use Rattle.wdired_buffer.specs.declared.faults.BufferCause.TheVariants as buffer
+use Rattle.dired_cli.specs.declared.status.Counted.TheVariants.{BufferBytes, BufferLines}
 use Rattle.dired_cli.specs.declared.status.Status.{Status}
-use Rattle.dired_cli.specs.declared.status.Status.TheVariants.{Done, Usage, Memory, ReadFault, TreeFault, WriteFault, Missing, Faulty, Stale, TooLarge, NotBuilt}
+use Rattle.dired_cli.specs.declared.status.Status.TheVariants.{Done, Usage, Memory, ReadFault, TreeFault, WriteFault, Missing, BadBuffer, Faulty, Stale, TooLarge, NotBuilt}
 
 abbrev pub number_of : Status → ℕ
 number_of Done = 0
@@ -18,6 +22,7 @@ number_of (ReadFault name) = 3
 number_of (TreeFault first) = 4
 number_of (WriteFault held) = 5
 number_of (Missing name) = 6
+number_of (BadBuffer name line cause) = 7
 number_of (Faulty line cause) = 8
 number_of (Stale line) = 10
 number_of (TooLarge what number) = 18
@@ -42,11 +47,37 @@ call_text Sync = codes "sync"
 
 abbrev pub counted_text : Counted → List ℕ
 counted_text BufferBytes = codes "BufferBytes"
+counted_text BufferLines = codes "BufferLines"
 
 abbrev pub cause_text : LineCause → List ℕ
 cause_text cause.LineCount = codes "LineCount"
 cause_text cause.Fixed = codes "Fixed"
 cause_text cause.BadName = codes "BadName"
+cause_text cause.BadMode = codes "BadMode"
+cause_text cause.BadTarget = codes "BadTarget"
+cause_text cause.Twice = codes "Twice"
+
+abbrev pub field_text : Field → List ℕ
+field_text field.Mark = codes "Mark"
+field_text field.Kind = codes "Kind"
+field_text field.Mode = codes "Mode"
+field_text field.Links = codes "Links"
+field_text field.Owner = codes "Owner"
+field_text field.Group = codes "Group"
+field_text field.Size = codes "Size"
+field_text field.Date = codes "Date"
+field_text field.Name = codes "Name"
+field_text field.Target = codes "Target"
+
+abbrev pub buffer_text : BufferCause → List ℕ
+buffer_text buffer.FirstLine = codes "FirstLine"
+buffer_text buffer.Header = codes "Header"
+buffer_text buffer.Total = codes "Total"
+buffer_text (buffer.Line field) = codes "Line " ++ field_text field
+
+-- what is said of a line of an input
+abbrev pub bad_line_text : List ℕ → ℕ → BufferCause → List ℕ
+bad_line_text name line cause = codes "dired: " ++ escaped false name ++ codes ", line " ++ decimal line ++ codes ": " ++ buffer_text cause ++ codes "\n"
 
 -- what is said of a line
 abbrev pub line_text : ℕ → List ℕ → List ℕ
@@ -61,6 +92,7 @@ text_of (ReadFault name) = codes "dired: cannot read " ++ escaped false name ++ 
 text_of (TreeFault first) = codes "dired: " ++ call_text first ++ codes " failed; nothing was decided\n"
 text_of (WriteFault held) = []
 text_of (Missing name) = codes "dired: no such input: " ++ escaped false name ++ codes "\n"
+text_of (BadBuffer name line cause) = bad_line_text name line cause
 text_of (Faulty line cause) = line_text line (cause_text cause)
 text_of (Stale line) = line_text line (codes "the file is not as shown")
 text_of (TooLarge what number) = codes "dired: too large: " ++ counted_text what ++ codes " " ++ decimal number ++ codes "\n"
@@ -75,6 +107,7 @@ has_fixed_text (ReadFault name) = false
 has_fixed_text (TreeFault first) = true
 has_fixed_text (WriteFault held) = true
 has_fixed_text (Missing name) = false
+has_fixed_text (BadBuffer name line cause) = false
 has_fixed_text (Faulty line cause) = false
 has_fixed_text (Stale line) = false
 has_fixed_text (TooLarge what number) = false
@@ -89,6 +122,7 @@ ByCause (ReadFault name) M F G R = G name
 ByCause (TreeFault first) M F G R = F first
 ByCause (WriteFault held) M F G R = R
 ByCause (Missing name) M F G R = R
+ByCause (BadBuffer name line cause) M F G R = R
 ByCause (Faulty line cause) M F G R = R
 ByCause (Stale line) M F G R = R
 ByCause (TooLarge what number) M F G R = R
@@ -103,6 +137,7 @@ IsRefusal (ReadFault name) = Unit {0}
 IsRefusal (TreeFault first) = Unit {0}
 IsRefusal (WriteFault held) = ⊥
 IsRefusal (Missing name) = Unit {0}
+IsRefusal (BadBuffer name line cause) = Unit {0}
 IsRefusal (Faulty line cause) = Unit {0}
 IsRefusal (Stale line) = Unit {0}
 IsRefusal (TooLarge what number) = Unit {0}

@@ -1,27 +1,19 @@
 // The commit of one new name.
-ghost use Rattle.std.specs.Prelude.{◌≡◌, length, MatchResult, IfOk, IfErr, OnOk, OnErr, Some, is_some};
+ghost use Rattle.std.specs.Prelude.{◌≡◌, ◌++◌, List, MatchResult, IfOk, IfErr, OnOk, OnErr, Some, is_some, string_bytes};
+ghost use Rattle.std.specs.Str.{bytes_eq};
+ghost use Rattle.dired_text.specs.Paths.{Names};
 ghost use Rattle.std.specs.FinMap.{get};
-ghost use Rattle.tree_core.specs.FileTree.{CanRename, renamed};
+ghost use Rattle.tree_core.specs.FileTree.{CanRename, HasMode, Stands, renamed};
 ghost use Rattle.tree_core.specs.History.{current_tree, IsDurable, LeavesOnly, FailedAt};
 ghost use Rattle.tree_core.specs.Faults.{with_fault};
 ghost use Rattle.dired_cli.specs.Statuses.{ByCause, IsRefusal};
-ghost use Rattle.dired_cli.specs.Verdicts.{IsOldOrEdited, FaultLeaves, is_file_of, IsLook, on_tree, edited, summary_text, Keeps, Refuses, Renames, CanBeAsked, IsDone};
+ghost use Rattle.dired_cli.specs.Verdicts.{IsOldOrEdited, FaultLeaves, is_as_shown as is_as_shown_of, is_mode, IsLook, on_tree, on_change, edited, flagged_text, summary_text, Keeps, Refuses, Renames, CanBeAsked, IsDone};
 
 use crate::Status;
-use dired_text::{Failed, Memory, Path, Text};
+use crate::requests::{NameChange, Request};
+use dired_text::{Bytes, Failed, Memory, Path, Text, escape};
 use std::alloc::Global;
-use tree_core::{CallName, Kind, Tree};
-
-/// What one line asks for: the file at `source`, shown with `mode`, is to stand at `to`.
-#[derive(Debug, PartialEq, Eq, Drop)]
-pub struct NameChange {
-    pub source: Path,
-    /// At most 0o7777.
-    pub mode: u16,
-    pub to: Path,
-    /// The number of the line, from 1.
-    pub line: u32,
-}
+use tree_core::{CallName, Kind, LookEnd, Shown, Tree};
 
 /// Renames one path. A crash at any moment leaves the tree from before or the renamed one.
 ///
@@ -64,17 +56,17 @@ pub fn commit_one<T: Tree>(tree: &mut T, from: &Path, to: &Path) -> Result<(), C
 pub fn carry_out<T: Tree>(
     alloc: Global,
     tree: &mut T,
-    asked: Option<NameChange>,
-) -> Result<Text, Status>
-    requires can { CanBeAsked asked }
+    request: Request,
+) -> Result<Bytes, Status>
+    requires can { CanBeAsked request.change }
     requires durable { T.Tells → IsDurable (T.history tree.old) }
 
     ensures done { T.Tells →
         let old = current_tree (T.history tree.old) in
-        IfOk result (λ text. IsDone (on_tree asked old) old (T.history tree.new) text) }
+        IfOk result (λ text. IsDone (on_tree request old) old (T.fields tree.old) (T.history tree.new) text) }
     ensures refused { T.Tells →
         let old = current_tree (T.history tree.old) in
-        let v = on_tree asked old in
+        let v = on_tree request old in
         IfErr result (λ status. ByCause status
         (T.history tree.new ≡ T.history tree.old)
         (λ first. FaultLeaves first old (edited v old) (T.before_failed tree.new) (current_tree (T.history tree.new)))
@@ -82,23 +74,28 @@ pub fn carry_out<T: Tree>(
         ((v ≡ Refuses status) × (T.history tree.new ≡ T.history tree.old))) }
     ensures any_moment { T.Tells →
         let old = current_tree (T.history tree.old) in
-        LeavesOnly (T.history tree.old) (T.history tree.new) (IsOldOrEdited old (edited (on_tree asked old) old)) }
+        LeavesOnly (T.history tree.old) (T.history tree.new) (IsOldOrEdited old (edited (on_tree request old) old)) }
     ensures cause { let same = T.faults tree.new ≡ T.faults tree.old in
         MatchResult result (λ _. same) (λ status. ByCause status
         same (λ first. T.faults tree.new ≡ with_fault first (T.faults tree.old)) (λ _. ⊥) same) }
     ensures end { IfErr result IsRefusal }
 {
-    match asked {
-        None => sync_alone(alloc, tree),
-        Some(change) => commit_change(alloc, tree, &change),
+    let flagged = request.flagged.as_slice();
+    match &request.change {
+        None => sync_alone(alloc, tree, flagged),
+        Some(change) => commit_change(alloc, tree, change, flagged),
     }
 }
 
 // Where nothing is asked for.
-fn sync_alone<T: Tree>(alloc: Global, tree: &mut T) -> Result<Text, Status>
+fn sync_alone<T: Tree>(
+    alloc: Global,
+    tree: &mut T,
+    flagged: &[Path],
+) -> Result<Bytes, Status>
     requires durable { T.Tells → IsDurable (T.history tree.old) }
 
-    ensures done { T.Tells → IfOk result (λ text. IsDone Keeps (current_tree (T.history tree.old)) (T.history tree.new) text) }
+    ensures done { T.Tells → IfOk result (λ text. IsDone (Keeps flagged.now) (current_tree (T.history tree.old)) (T.fields tree.old) (T.history tree.new) text) }
     ensures refused { T.Tells →
         let old = current_tree (T.history tree.old) in
         IfErr result (λ status. ByCause status
@@ -113,7 +110,7 @@ fn sync_alone<T: Tree>(alloc: Global, tree: &mut T) -> Result<Text, Status>
         same (λ first. T.faults tree.new ≡ with_fault first (T.faults tree.old)) (λ _. ⊥) ⊥) }
     ensures end { IfErr result IsRefusal }
 {
-    let Ok(text) = summary(alloc, 0) else {
+    let Ok(text) = summary(alloc, 0, flagged) else {
         return Err(Status::Memory);
     };
     match tree.sync() {
@@ -125,17 +122,21 @@ fn sync_alone<T: Tree>(alloc: Global, tree: &mut T) -> Result<Text, Status>
 }
 
 // Where one new name is asked for.
-fn commit_change<T: Tree>(alloc: Global, tree: &mut T, change: &NameChange) -> Result<Text, Status>
-    requires source { length change.now.source ≡ 1 }
-    requires to { length change.now.to ≡ 1 }
+fn commit_change<T: Tree>(
+    alloc: Global,
+    tree: &mut T,
+    change: &NameChange,
+    flagged: &[Path],
+) -> Result<Bytes, Status>
+    requires can { CanBeAsked (Some change.now) }
     requires durable { T.Tells → IsDurable (T.history tree.old) }
 
     ensures done { T.Tells →
         let old = current_tree (T.history tree.old) in
-        IfOk result (λ text. IsDone (on_tree (Some change.now) old) old (T.history tree.new) text) }
+        IfOk result (λ text. IsDone (on_change (Some change.now) flagged.now old) old (T.fields tree.old) (T.history tree.new) text) }
     ensures refused { T.Tells →
         let old = current_tree (T.history tree.old) in
-        let v = on_tree (Some change.now) old in
+        let v = on_change (Some change.now) flagged.now old in
         IfErr result (λ status. ByCause status
         (T.history tree.new ≡ T.history tree.old)
         (λ first. FaultLeaves first old (edited v old) (T.before_failed tree.new) (current_tree (T.history tree.new)))
@@ -143,14 +144,14 @@ fn commit_change<T: Tree>(alloc: Global, tree: &mut T, change: &NameChange) -> R
         ((v ≡ Refuses status) × (T.history tree.new ≡ T.history tree.old))) }
     ensures any_moment { T.Tells →
         let old = current_tree (T.history tree.old) in
-        LeavesOnly (T.history tree.old) (T.history tree.new) (IsOldOrEdited old (edited (on_tree (Some change.now) old) old)) }
+        LeavesOnly (T.history tree.old) (T.history tree.new) (IsOldOrEdited old (edited (on_change (Some change.now) flagged.now old) old)) }
     ensures cause { let same = T.faults tree.new ≡ T.faults tree.old in
         MatchResult result (λ _. same) (λ status. ByCause status
         same (λ first. T.faults tree.new ≡ with_fault first (T.faults tree.old)) (λ _. ⊥) same) }
     ensures end { IfErr result IsRefusal }
 {
-    look(tree, change)?;
-    let Ok(text) = summary(alloc, 1) else {
+    look(alloc, tree, change)?;
+    let Ok(text) = summary(alloc, 1, flagged) else {
         return Err(Status::Memory);
     };
     match commit_one(tree, &change.source, &change.to) {
@@ -160,21 +161,22 @@ fn commit_change<T: Tree>(alloc: Global, tree: &mut T, change: &NameChange) -> R
 }
 
 // Whether the change can be made: its line is as shown, and nothing stands at its new path.
-fn look<T: Tree>(tree: &mut T, change: &NameChange) -> Result<(), Status>
-    ensures ok { T.Tells →
-        OnOk result (on_tree (Some change.now) (current_tree (T.history tree.old)) ≡ Renames change.now.source change.now.to) }
+fn look<T: Tree>(alloc: Global, tree: &mut T, change: &NameChange) -> Result<(), Status>
+    ensures ok { T.Tells → OnOk result
+        ((flagged : List Names) → on_change (Some change.now) flagged (current_tree (T.history tree.old)) ≡ Renames change.now.source change.now.to flagged) }
     ensures refused { T.Tells →
         let old = current_tree (T.history tree.old) in
         IfErr result (λ status. ByCause status
-        ⊥ (λ first. T.before_failed tree.new ≡ old) (λ _. ⊥) (on_tree (Some change.now) old ≡ Refuses status)) }
+        (Unit {0}) (λ first. T.before_failed tree.new ≡ old) (λ _. ⊥)
+        ((flagged : List Names) → on_change (Some change.now) flagged old ≡ Refuses status)) }
     ensures history { T.Tells → T.history tree.new ≡ T.history tree.old }
     ensures cause { let same = T.faults tree.new ≡ T.faults tree.old in
         MatchResult result (λ _. same) (λ status. ByCause status
-        ⊥ (λ first. IsLook first × (T.faults tree.new ≡ with_fault first (T.faults tree.old))) (λ _. ⊥) same) }
+        same (λ first. IsLook first × (T.faults tree.new ≡ with_fault first (T.faults tree.old))) (λ _. ⊥) same) }
     ensures end { IfErr result IsRefusal }
 {
-    match is_as_shown(tree, &change.source, change.mode) {
-        Err(first) => return Err(Status::TreeFault { first }),
+    match is_as_shown(alloc, tree, &change.source, &change.was) {
+        Err(end) => return Err(end),
         Ok(false) => return Err(Status::Stale { line: change.line }),
         Ok(true) => {}
     }
@@ -185,32 +187,108 @@ fn look<T: Tree>(tree: &mut T, change: &NameChange) -> Result<(), Status>
     }
 }
 
-// The line that a commit of so many new names writes.
-fn summary(alloc: Global, names: u32) -> Result<Text, Memory>
-    ensures { IfOk result (λ text. text ≡ summary_text names) }
+// What a commit of so many new names writes.
+fn summary(alloc: Global, names: u32, flagged: &[Path]) -> Result<Bytes, Memory>
+    ensures { IfOk result (λ text. text ≡ summary_text names flagged.now) }
 {
-    Ok(Text::from_string(format!(in alloc;
-        "renamed {names}, retargeted 0, modes 0, replaced 0, made 0, flagged 0\n"
-    )?))
+    let mut text = String::new(alloc);
+    for path in flagged {
+        push_flagged(&mut text, path)?;
+    }
+    let count = flagged.len();
+    let line = format!(in alloc;
+        "renamed {names}, retargeted 0, modes 0, replaced 0, made 0, flagged {count}\n"
+    )?;
+    text.push_str(line.as_str())?;
+    Ok(Bytes::from_vec(text.into_bytes()))
 }
 
-// Whether a file of this mode stands at the path.
-fn is_as_shown<T: Tree>(tree: &mut T, path: &Path, mode: u16) -> Result<bool, CallName>
-    ensures shown { T.Tells → IfOk result (λ b. b ≡ is_file_of mode (get (current_tree (T.history tree.old)) path.now)) }
-    ensures history { T.Tells → T.history tree.new ≡ T.history tree.old }
-    ensures found { T.Tells → OnErr result (T.before_failed tree.new ≡ current_tree (T.history tree.old)) }
-    ensures look { IfErr result IsLook }
-    ensures cause { MatchResult result
-        (λ _. T.faults tree.new ≡ T.faults tree.old)
-        (λ first. T.faults tree.new ≡ with_fault first (T.faults tree.old)) }
+// Pushes the line of an emptied name.
+fn push_flagged(text: &mut String, path: &Path) -> Result<(), Memory>
+    ensures { OnOk result (string_bytes text.new ≡ string_bytes text.old ++ flagged_text path.now) }
 {
-    match tree.kind(path) {
-        Err(Failed) => Err(CallName::Kind),
-        Ok(Some(Kind::File)) => match tree.mode(path) {
-            Err(Failed) => Err(CallName::Mode),
-            Ok(now) => Ok(now == mode),
-        },
-        Ok(_) => Ok(false),
+    let shown = path.text()?;
+    let shown = escape(*text.allocator(), shown.as_str(), false)?;
+    text.push_str("flagged ")?;
+    text.push_str(shown.as_str())?;
+    text.push_str("\n")?;
+    Ok(())
+}
+
+// Whether what stands at the path is as a line shows it: of the same kind, as a link with the same target, else of the
+// same mode.
+fn is_as_shown<T: Tree>(
+    alloc: Global,
+    tree: &mut T,
+    path: &Path,
+    was: &Shown,
+) -> Result<bool, Status>
+    ensures shown { T.Tells → IfOk result (λ b. b ≡ is_as_shown_of was.now (get (current_tree (T.history tree.old)) path.now)) }
+    ensures history { T.Tells → T.history tree.new ≡ T.history tree.old }
+    ensures refused { IfErr result (λ status. ByCause status
+        (T.faults tree.new ≡ T.faults tree.old)
+        (λ first. IsLook first × (T.faults tree.new ≡ with_fault first (T.faults tree.old)) × (T.Tells → T.before_failed tree.new ≡ current_tree (T.history tree.old)))
+        (λ _. ⊥) ⊥) }
+    ensures held { OnOk result (T.faults tree.new ≡ T.faults tree.old) }
+    ensures end { IfErr result IsRefusal }
+{
+    let Ok(kind) = tree.kind(path) else {
+        return Err(Status::TreeFault {
+            first: CallName::Kind,
+        });
+    };
+    if kind != Some(was.kind) {
+        return Ok(false);
+    }
+    match was.kind {
+        Kind::Link => has_target(alloc, tree, path, &was.target),
+        Kind::File | Kind::Dir => has_mode(tree, path, was.mode),
+    }
+}
+
+// Whether a file or directory has this mode.
+fn has_mode<T: Tree>(tree: &mut T, path: &Path, mode: u16) -> Result<bool, Status>
+    requires stands { T.Tells → HasMode (current_tree (T.history tree.old)) path.now }
+    ensures mode { T.Tells → IfOk result (λ b. b ≡ is_mode mode (get (current_tree (T.history tree.old)) path.now)) }
+    ensures history { T.Tells → T.history tree.new ≡ T.history tree.old }
+    ensures refused { IfErr result (λ status. ByCause status
+        ⊥
+        (λ first. IsLook first × (T.faults tree.new ≡ with_fault first (T.faults tree.old)) × (T.Tells → T.before_failed tree.new ≡ current_tree (T.history tree.old)))
+        (λ _. ⊥) ⊥) }
+    ensures held { OnOk result (T.faults tree.new ≡ T.faults tree.old) }
+    ensures end { IfErr result IsRefusal }
+{
+    match tree.mode(path) {
+        Ok(now) => Ok(now == mode),
+        Err(Failed) => Err(Status::TreeFault {
+            first: CallName::Mode,
+        }),
+    }
+}
+
+// Whether a link has this target.
+fn has_target<T: Tree>(
+    alloc: Global,
+    tree: &mut T,
+    path: &Path,
+    target: &Text,
+) -> Result<bool, Status>
+    requires stands { T.Tells → Stands (current_tree (T.history tree.old)) path.now }
+    ensures target { T.Tells → IfOk result (λ b. b ≡ bytes_eq (T.fields tree.old path.now).target target.now) }
+    ensures history { T.Tells → T.history tree.new ≡ T.history tree.old }
+    ensures refused { IfErr result (λ status. ByCause status
+        (T.faults tree.new ≡ T.faults tree.old)
+        (λ first. IsLook first × (T.faults tree.new ≡ with_fault first (T.faults tree.old)) × (T.Tells → T.before_failed tree.new ≡ current_tree (T.history tree.old)))
+        (λ _. ⊥) ⊥) }
+    ensures held { OnOk result (T.faults tree.new ≡ T.faults tree.old) }
+    ensures end { IfErr result IsRefusal }
+{
+    match tree.meta(alloc, path) {
+        Ok(meta) => Ok(meta.target.as_str() == target.as_str()),
+        Err(LookEnd::Failed) => Err(Status::TreeFault {
+            first: CallName::Meta,
+        }),
+        Err(LookEnd::Memory) => Err(Status::Memory),
     }
 }
 

@@ -3,24 +3,20 @@
 
 mod commit;
 mod inputs;
+mod listing;
 mod program;
-mod real_inputs;
-mod real_output;
-mod real_tree;
 mod reports;
 mod requests;
 mod status;
 #[cfg(test)]
 mod tests;
-mod words;
 
 pub use program::run;
-use real_inputs::RealInputs;
-use real_output::RealOutput;
-use real_tree::RealTree;
+pub use requests::{NameChange, Request};
 pub use status::{Counted, Status};
 use std::env;
 use std::process::ExitCode;
+use tree_host::{FileShelf, HostTree, OutSink};
 
 // The ends that are no status of a run: the working directory can't be taken as the tree, and the words can't be had.
 const NO_TREE: u8 = 40;
@@ -31,11 +27,11 @@ fn main(rt: HostRuntime) -> ExitCode {
     let Ok(words) = words_after_the_name(&rt) else {
         return ExitCode::from(NO_WORDS);
     };
-    let Ok(mut tree) = RealTree::open(rt) else {
+    let Ok(mut tree) = HostTree::open(rt) else {
         return ExitCode::from(NO_TREE);
     };
-    let mut inputs = RealInputs::new(rt);
-    let mut output = RealOutput::new(rt);
+    let mut inputs = FileShelf::new(rt);
+    let mut output = OutSink::new(rt);
     let status = run(rt.alloc(), &words, &mut tree, &mut inputs, &mut output);
     ExitCode::from(status.number())
 }

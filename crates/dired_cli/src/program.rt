@@ -10,21 +10,24 @@ ghost use Rattle.tree_core.specs.declared.node.CallName.{CallName as Call};
 ghost use Rattle.dired_cli.specs.declared.status.Status.TheVariants.{Done, Memory, TreeFault, ReadFault, WriteFault};
 ghost use Rattle.dired_cli.specs.Reports.{Said};
 ghost use Rattle.dired_cli.specs.WellFormed.{IsWellFormed};
-ghost use Rattle.dired_cli.specs.Runs.{verdict, Outside, Decides, line_of, may_follow_fault};
+ghost use Rattle.dired_cli.specs.Runs.{verdict, Outside, Decides, IsText, may_follow_fault};
 
 use crate::Status;
 use crate::commit::carry_out;
+use crate::listing::list;
 use crate::reports::report;
 use crate::requests::asked_for;
-use crate::words::commit_words;
-use dired_text::{Shelf, Sink, Text};
+use command_words::{Command, WordsFault, read_words};
+use dired_text::{Bytes, Shelf, Sink};
 use std::alloc::Global;
 use tree_core::Tree;
 
 /// Carries out the words of a command line, and answers the status. Its text, or at `Done` the summary, is the last line
 /// written.
 ///
-/// `commit BEFORE AFTER` compares a listing as printed with the same listing as edited, and gives one file its new name.
+/// `list [-A] [-l] [-t] [-S] [-r] [DIR]...` prints the listing of the root and of each DIR. `commit [--all] BEFORE AFTER
+/// [CONFIRMED]...` compares a listing as printed with the same listing as edited, and gives one entry its new name in its
+/// directory; it names the entries whose names were emptied.
 pub fn run<T: Tree, H: Shelf, W: Sink>(
     alloc: Global,
     words: &[String],
@@ -37,9 +40,11 @@ pub fn run<T: Tree, H: Shelf, W: Sink>(
 
     // The status is decided by the verdict, by the first failed call or by want of memory, and then its line is written.
     ensures outcome { T.Tells → H.Tells →
-        let v = verdict (map string_bytes words.now) (H.files shelf.old) (current_tree (T.history tree.old)) in
+        let old = current_tree (T.history tree.old) in
+        let v = verdict (map string_bytes words.now) (H.files shelf.old) old in
         let before : Outside = record {
           history = T.history tree.old;
+          fields = T.fields tree.old;
           tree_faults = T.faults tree.old;
           found = T.before_failed tree.old;
           read_faults = H.faults shelf.old;
@@ -47,13 +52,15 @@ pub fn run<T: Tree, H: Shelf, W: Sink>(
         } in
         let now : Outside = record {
           history = T.history tree.new;
+          fields = T.fields tree.new;
           tree_faults = T.faults tree.new;
           found = T.before_failed tree.new;
           read_faults = H.faults shelf.new;
           last_read = H.last_failed shelf.new;
         } in
-        (decided : Status) × (Decides v before now decided
-        × Said W.Tells decided (line_of v decided)
+        (decided : Status) × (text : List ℕ) × (Decides v before now decided
+        × IsText v old (T.fields tree.old) decided text
+        × Said W.Tells decided text
         (W.taken sink.old) (W.taken sink.new) (W.faults sink.old) (W.faults sink.new) result) }
 
     // Stopped at any moment, whatever failed, the tree is the old one or the edited one.
@@ -91,13 +98,13 @@ fn decide<T: Tree, H: Shelf>(
     words: &[String],
     tree: &mut T,
     shelf: &mut H,
-) -> Result<Text, Status>
+) -> Result<Bytes, Status>
     requires durable { T.Tells → IsDurable (T.history tree.old) }
 
     ensures done { T.Tells → H.Tells →
         let old = current_tree (T.history tree.old) in
         let v = verdict (map string_bytes words.now) (H.files shelf.old) old in
-        IfOk result (λ text. IsDone v old (T.history tree.new) text) }
+        IfOk result (λ text. IsDone v old (T.fields tree.old) (T.history tree.new) text) }
     ensures refused { T.Tells → H.Tells →
         let old = current_tree (T.history tree.old) in
         let v = verdict (map string_bytes words.now) (H.files shelf.old) old in
@@ -120,11 +127,15 @@ fn decide<T: Tree, H: Shelf>(
         (Unit {0}) (λ _. Unit {0}) (λ failed. H.last_failed shelf.new ≡ Some failed) (Unit {0})) }
     ensures end { IfErr result IsRefusal }
 {
-    let Some((before, after)) = commit_words(words) else {
-        return Err(Status::Usage);
-    };
-    match asked_for(alloc, before, after, shelf) {
-        Ok(asked) => carry_out(alloc, tree, asked),
-        Err(status) => Err(status),
+    match read_words(alloc, words) {
+        Ok(Command::List { switches, dirs }) => list(alloc, tree, &switches, dirs.as_slice()),
+        Ok(Command::Commit { before, after, .. }) => {
+            match asked_for(alloc, &before, &after, shelf) {
+                Ok(request) => carry_out(alloc, tree, request),
+                Err(status) => Err(status),
+            }
+        }
+        Err(WordsFault::Usage) => Err(Status::Usage),
+        Err(WordsFault::Memory) => Err(Status::Memory),
     }
 }

@@ -7,20 +7,20 @@ ghost use Rattle.dired_cli.specs.Reports.{Said, Reported};
 
 use crate::Status;
 use crate::status::{NOTHING_DECIDED, OUT_OF_MEMORY, USAGE, call_text};
-use dired_text::{Failed, Sink, Text};
+use dired_text::{Bytes, Failed, Sink};
 use std::alloc::Global;
 use tree_core::CallName;
 
 /// Writes the output of a command that was done, or the text of its refusal, and answers the status.
-pub fn report<W: Sink>(alloc: Global, ended: Result<Text, Status>, sink: &mut W) -> Status
+pub fn report<W: Sink>(alloc: Global, ended: Result<Bytes, Status>, sink: &mut W) -> Status
     ensures { Reported W.Tells ended (W.taken sink.old) (W.taken sink.new) (W.faults sink.old) (W.faults sink.new) result }
 {
     match ended {
-        Ok(output) => say(sink, output.as_str(), Status::Done),
+        Ok(output) => say(sink, output.as_slice(), Status::Done),
         Err(status) if status.has_fixed_text() => say_fixed(sink, status),
         Err(status) => match status.text(alloc) {
-            Ok(text) => say(sink, text.as_str(), status),
-            Err(_) => say(sink, OUT_OF_MEMORY, Status::Memory),
+            Ok(text) => say(sink, text.as_bytes(), status),
+            Err(_) => say(sink, OUT_OF_MEMORY.as_bytes(), Status::Memory),
         },
     }
 }
@@ -31,13 +31,14 @@ fn say_fixed<W: Sink>(sink: &mut W, status: Status) -> Status
     ensures { Said W.Tells status (text_of status) (W.taken sink.old) (W.taken sink.new) (W.faults sink.old) (W.faults sink.new) result }
 {
     match status {
-        Status::Usage => say(sink, USAGE, Status::Usage),
-        Status::Memory => say(sink, OUT_OF_MEMORY, Status::Memory),
+        Status::Usage => say(sink, USAGE.as_bytes(), Status::Usage),
+        Status::Memory => say(sink, OUT_OF_MEMORY.as_bytes(), Status::Memory),
         Status::TreeFault { first } => say_tree_fault(sink, first),
-        Status::Done => say(sink, "", Status::Done),
-        Status::WriteFault { held } => say(sink, "", Status::WriteFault { held }),
+        Status::Done => say(sink, b"", Status::Done),
+        Status::WriteFault { held } => say(sink, b"", Status::WriteFault { held }),
         Status::ReadFault { .. }
         | Status::Missing { .. }
+        | Status::BadBuffer { .. }
         | Status::Faulty { .. }
         | Status::Stale { .. }
         | Status::TooLarge { .. }
@@ -46,10 +47,10 @@ fn say_fixed<W: Sink>(sink: &mut W, status: Status) -> Status
 }
 
 // Writes the text of a status, and answers the status or the write fault that holds its number.
-fn say<W: Sink>(sink: &mut W, text: &str, status: Status) -> Status
+fn say<W: Sink>(sink: &mut W, text: &[u8], status: Status) -> Status
     ensures { Said W.Tells status text.now (W.taken sink.old) (W.taken sink.new) (W.faults sink.old) (W.faults sink.new) result }
 {
-    match sink.put(text.as_bytes()) {
+    match sink.put(text) {
         Ok(()) => status,
         Err(Failed) => Status::WriteFault {
             held: status.number(),

@@ -1,18 +1,21 @@
 // What a run answers.
-ghost use Rattle.std.specs.Prelude.{◌≡◌, IfOk};
+ghost use Rattle.std.specs.Prelude.{◌≡◌, ◌++◌, IfOk, OnOk, codes, decimal};
 ghost use Rattle.std.specs.String.{string_bytes};
-ghost use Rattle.dired_cli.specs.Statuses.{call_text as call_text_of, cause_text as cause_text_of, line_text as line_text_of};
+ghost use Rattle.dired_cli.specs.Statuses.{call_text as call_text_of, cause_text as cause_text_of, line_text as line_text_of, field_text as field_text_of, buffer_text, bad_line_text as bad_line_text_of};
 
 use dired_text::{Memory, Text, escape};
 use std::alloc::Global;
+use listing_text::Field;
 use tree_core::CallName;
-use wdired_buffer::LineCause;
+use wdired_buffer::{BufferCause, LineCause};
 
 /// A quantity that has a limit.
 #[derive(Clone, Copy, Debug, PartialEq, Eq)]
 pub enum Counted {
     /// The bytes of one buffer, at most 33,554,432.
     BufferBytes,
+    /// The lines of BEFORE, at most 200,000.
+    BufferLines,
 }
 
 /// What a run answers. Each has a number, with which the program exits, and all but `Done` and `WriteFault` a text, the
@@ -32,13 +35,19 @@ pub enum Status {
     /// The output could not be written. `held` is the number of the status whose text was being written, 0 for the
     /// output of a command that was done.
     WriteFault { held: u8 },
-    /// There is no input of this name.
+    /// There is no input of this name, or no directory at this path of the tree.
     Missing { name: Text },
+    /// This line of the input of this name, counted from 1, is the first that is no line of a listing, for this cause.
+    BadBuffer {
+        name: Text,
+        line: u32,
+        cause: BufferCause,
+    },
     /// This line of AFTER, counted from 1, can't be taken, for this cause.
     Faulty { line: u32, cause: LineCause },
     /// The entry of this line, counted from 1, is not as the line shows it.
     Stale { line: u32 },
-    /// A quantity is above its limit. `number` is the limit plus 1.
+    /// A quantity is above its limit. `number` is the limit plus 1 for bytes, and for lines their number.
     TooLarge { what: Counted, number: u64 },
     /// This line, counted from 1, asks for something that the program can't do yet.
     NotBuilt { line: u32 },
@@ -59,6 +68,7 @@ impl Status {
             Status::TreeFault { .. } => 4,
             Status::WriteFault { .. } => 5,
             Status::Missing { .. } => 6,
+            Status::BadBuffer { .. } => 7,
             Status::Faulty { .. } => 8,
             Status::Stale { .. } => 10,
             Status::TooLarge { .. } => 18,
@@ -74,6 +84,7 @@ impl Status {
             self,
             Status::ReadFault { .. }
                 | Status::Missing { .. }
+                | Status::BadBuffer { .. }
                 | Status::Faulty { .. }
                 | Status::Stale { .. }
                 | Status::TooLarge { .. }
@@ -101,6 +112,7 @@ impl Status {
                 let name = escape(alloc, name.as_str(), false)?;
                 Ok(format!(in alloc; "dired: no such input: {}\n", name.as_str())?)
             }
+            Status::BadBuffer { name, line, cause } => bad_line_text(alloc, name, *line, *cause),
             Status::Faulty { line, cause } => line_text(alloc, *line, cause_text(*cause)),
             Status::Stale { line } => line_text(alloc, *line, "the file is not as shown"),
             Status::TooLarge { what, number } => {
@@ -148,6 +160,68 @@ fn line_text(alloc: Global, line: u32, said: &str) -> Result<String, Memory>
     Ok(format!(in alloc; "dired: line {line}: {said}\n")?)
 }
 
+// What is said of a line of an input.
+fn bad_line_text(
+    alloc: Global,
+    name: &Text,
+    line: u32,
+    cause: BufferCause,
+) -> Result<String, Memory>
+    ensures { IfOk result (λ t. string_bytes t ≡ bad_line_text_of name.now line cause) }
+{
+    let name = escape(alloc, name.as_str(), false)?;
+    let mut text = String::from_str(alloc, "dired: ")?;
+    text.push_str(name.as_str())?;
+    push_line(&mut text, line)?;
+    push_buffer_cause(&mut text, cause)?;
+    text.push_str("\n")?;
+    Ok(text)
+}
+
+// Pushes the number of a line behind the name of its input.
+fn push_line(text: &mut String, line: u32) -> Result<(), Memory>
+    ensures { OnOk result (string_bytes text.new ≡ string_bytes text.old ++ codes ", line " ++ decimal line ++ codes ": ") }
+{
+    let alloc = *text.allocator();
+    let piece = format!(in alloc; ", line {line}: ")?;
+    text.push_str(piece.as_str())?;
+    Ok(())
+}
+
+// Pushes the name of a cause, and of the field that it carries.
+fn push_buffer_cause(text: &mut String, cause: BufferCause) -> Result<(), Memory>
+    ensures { OnOk result (string_bytes text.new ≡ string_bytes text.old ++ buffer_text cause) }
+{
+    match cause {
+        BufferCause::FirstLine => text.push_str("FirstLine")?,
+        BufferCause::Header => text.push_str("Header")?,
+        BufferCause::Total => text.push_str("Total")?,
+        BufferCause::Line(field) => {
+            text.push_str("Line ")?;
+            text.push_str(field_text(field))?;
+        }
+    }
+    Ok(())
+}
+
+// The name of a field.
+fn field_text(field: Field) -> &'static str
+    ensures { result.now ≡ field_text_of field }
+{
+    match field {
+        Field::Mark => "Mark",
+        Field::Kind => "Kind",
+        Field::Mode => "Mode",
+        Field::Links => "Links",
+        Field::Owner => "Owner",
+        Field::Group => "Group",
+        Field::Size => "Size",
+        Field::Date => "Date",
+        Field::Name => "Name",
+        Field::Target => "Target",
+    }
+}
+
 // The name of a cause.
 fn cause_text(cause: LineCause) -> &'static str
     ensures { result.now ≡ cause_text_of cause }
@@ -156,6 +230,9 @@ fn cause_text(cause: LineCause) -> &'static str
         LineCause::LineCount => "LineCount",
         LineCause::Fixed => "Fixed",
         LineCause::BadName => "BadName",
+        LineCause::BadMode => "BadMode",
+        LineCause::BadTarget => "BadTarget",
+        LineCause::Twice => "Twice",
     }
 }
 
@@ -168,6 +245,7 @@ impl Counted {
     {
         match self {
             Counted::BufferBytes => "BufferBytes",
+            Counted::BufferLines => "BufferLines",
         }
     }
 }

@@ -1,5 +1,5 @@
 -- The repeats of a regexp (GNU Emacs Manual, "Syntax of Regular Expressions").
-use Rattle.std.specs.Prelude.{ℕ, zero, suc, ◌+◌, ◌-◌, ◌*◌, ◌==◌, Bool, true, false, ◌&&◌, ◌||◌, nat_le, List, [], ◌∷◌, drop, Option, Some, None, if◌then◌else◌, option_and_then, slice_get}
+use Rattle.std.specs.Prelude.{ℕ, zero, suc, ◌+◌, ◌-◌, ◌*◌, ◌==◌, Bool, false, ◌&&◌, ◌||◌, nat_le, List, [], ◌∷◌, drop, Option, Some, None, if◌then◌else◌, option_and_then, slice_get}
 use Rattle.emacs_regexp.specs.declared.token.Quantifier.{Quantifier}
 use Rattle.emacs_regexp.specs.declared.token.Quantifier.TheVariants.{Star, Plus, Optional, LazyStar, LazyPlus, LazyOptional, Times, Between}
 

@@ -1,3 +1,4 @@
+pub mod Backwards
 pub mod Intervals
 pub mod Places
 pub mod Reading

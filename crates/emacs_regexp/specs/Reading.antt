@@ -1,5 +1,5 @@
 -- Which regexp a text writes, and which fault it has.
-use Rattle.std.specs.Prelude.{ℕ, zero, suc, ◌+◌, ◌-◌, ◌==◌, List, [], ◌∷◌, Result, Ok, Err, if◌then◌else◌}
+use Rattle.std.specs.Prelude.{◌≡◌, ℕ, zero, suc, ◌+◌, ◌-◌, ◌==◌, List, [], ◌∷◌, Result, Ok, Err, if◌then◌else◌}
 use Rattle.std.specs.Str.{chars}
 use Rattle.emacs_regexp.specs.declared.fault.RegexpFault.{RegexpFault}
 use Rattle.emacs_regexp.specs.declared.fault.RegexpFault.TheVariants.{Unclosed, Unopened, BadInterval, BadClass, TrailingBackslash, NotInProfile, Memory}
@@ -10,7 +10,7 @@ use Rattle.emacs_regexp.specs.declared.token.Token.{Token}
 use Rattle.emacs_regexp.specs.declared.token.Token.TheVariants.{Atom as one, Repeat, Open, Close, Or}
 use Rattle.emacs_regexp.specs.Places.{in_bytes}
 use Rattle.emacs_regexp.specs.Tokens.{Read, token_of, before_behind}
-use Rattle.emacs_regexp.specs.Trees.{Tree, tree_of}
+use Rattle.emacs_regexp.specs.Trees.{Tree, Writes, tree_of}
 
 -- the groups that are open behind a token at a place: how many they are, and where the outermost began
 abbrev pub nesting_behind : ℕ → Token → Nesting → Result Nesting RegexpFault
@@ -74,3 +74,7 @@ as_regexp text (Err fault) = Err (in_bytes text fault)
 -- the regexp that a text writes, or its first fault
 abbrev pub regexp_of : List ℕ → Result Tree RegexpFault
 regexp_of text = as_regexp (chars text) (tokens_read (chars text))
+
+-- a regexp whose tokens are those of a text
+abbrev pub IsRegexpOf : List ℕ → Tree → Type 0
+IsRegexpOf text tree = (tokens : List Token) × (tokens_read (chars text) ≡ Ok tokens) × Writes tokens tree

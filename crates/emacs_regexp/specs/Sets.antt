@@ -1,5 +1,5 @@
 -- The sets of a regexp (GNU Emacs Manual, "Syntax of Regular Expressions").
-use Rattle.std.specs.Prelude.{ℕ, zero, suc, ◌+◌, ◌==◌, Bool, true, false, ◌&&◌, not, nat_lt, List, [], ◌∷◌, drop, Option, Some, None, Result, Ok, Err, if◌then◌else◌}
+use Rattle.std.specs.Prelude.{ℕ, zero, suc, ◌+◌, ◌==◌, Bool, false, ◌&&◌, not, nat_lt, List, [], ◌∷◌, Option, Some, None, Result, Ok, Err, if◌then◌else◌}
 use Rattle.emacs_regexp.specs.declared.fault.RegexpFault.{RegexpFault}
 use Rattle.emacs_regexp.specs.declared.fault.RegexpFault.TheVariants.{Unclosed, BadClass, NotInProfile}
 use Rattle.emacs_regexp.specs.declared.token.Member.{Member}

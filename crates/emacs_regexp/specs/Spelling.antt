@@ -21,6 +21,9 @@ abbrev pub spelled_member : Member → List ℕ
 spelled_member (one c) = escaped c
 spelled_member (Range from to) = escaped from ++ codes "-" ++ escaped to
 
+abbrev pub spelled_set : Bool → List Member → List ℕ
+spelled_set is_negated members = (if is_negated then codes "[^" else codes "[") ++ flat_map spelled_member members ++ codes "]"
+
 abbrev pub spelled_atom : Atom → List ℕ
 spelled_atom Any = codes "."
 spelled_atom LineBegin = codes "(?m:^)"
@@ -28,8 +31,7 @@ spelled_atom LineEnd = codes "(?m:$)"
 spelled_atom TextBegin = codes "\\A"
 spelled_atom TextEnd = codes "\\z"
 spelled_atom (Char c) = escaped c
-spelled_atom (Set is_negated members) =
-    (if is_negated then codes "[^" else codes "[") ++ flat_map spelled_member members ++ codes "]"
+spelled_atom (Set is_negated members) = spelled_set is_negated members
 spelled_atom Word = codes "\\w"
 spelled_atom NotWord = codes "\\W"
 spelled_atom Boundary = codes "\\b"

@@ -6,7 +6,6 @@ use Rattle.emacs_regexp.specs.declared.fault.RegexpFault.{RegexpFault}
 use Rattle.emacs_regexp.specs.declared.fault.RegexpFault.TheVariants.{BadInterval, NotInProfile, TrailingBackslash}
 use Rattle.emacs_regexp.specs.declared.lexing.Before.{Before}
 use Rattle.emacs_regexp.specs.declared.lexing.Before.TheVariants.{Start, Caret, Item}
-use Rattle.emacs_regexp.specs.declared.token.Atom.{Atom}
 use Rattle.emacs_regexp.specs.declared.token.Atom.TheVariants.{Any, LineBegin, LineEnd, TextBegin, TextEnd, Char, Set, Word, NotWord, Boundary, NotBoundary}
 use Rattle.emacs_regexp.specs.declared.token.Member.{Member}
 use Rattle.emacs_regexp.specs.declared.token.Quantifier.{Quantifier}
@@ -94,7 +93,7 @@ token_of before at c rest =
     else if c == 46 then Ok (one Any, 0)
     else if c == 94 && is_start before then Ok (one LineBegin, 0)
     else if c == 36 && is_end rest then Ok (one LineEnd, 0)
-    else if is_repeat c && is_item before then Ok (repeat_of c rest)
+    else if is_item before && is_repeat c then Ok (repeat_of c rest)
     else Ok (one (Char c), 0)
 
 -- what stands before the place behind a token

@@ -1,5 +1,5 @@
 -- Regexps as trees.
-use Rattle.std.specs.Prelude.{◌≡◌, ◌≢◌, ℕ, ◌+◌, Bool, true, List, [], ◌∷◌, ◌++◌, Option, Some, None, if◌then◌else◌}
+use Rattle.std.specs.Prelude.{◌≡◌, ◌≢◌, ℕ, ◌+◌, Bool, false, List, [], ◌∷◌, ◌++◌, Option, Some, None, if◌then◌else◌}
 use Rattle.emacs_regexp.specs.declared.token.Atom.{Atom}
 use Rattle.emacs_regexp.specs.declared.token.Quantifier.{Quantifier}
 use Rattle.emacs_regexp.specs.declared.token.Token.{Token}
@@ -88,3 +88,11 @@ group_count (Then first second) = group_count first + group_count second
 group_count (Either first second) = group_count first + group_count second
 group_count (Repeated tree quantifier) = group_count tree
 group_count (Group is_numbered tree) = if is_numbered then group_count tree + 1 else group_count tree
+
+-- a token that begins a group with a number
+abbrev pub is_numbered_open : Token → Bool
+is_numbered_open (one atom) = false
+is_numbered_open (Repeat quantifier) = false
+is_numbered_open (Open is_numbered) = is_numbered
+is_numbered_open Close = false
+is_numbered_open Or = false

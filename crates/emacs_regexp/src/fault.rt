@@ -1,5 +1,6 @@
 // Why a text is no regexp.
 use dired_text::Memory;
+use std::alloc::AllocFailed;
 use thiserror::Error;
 
 /// Why a text is no regexp. A place is where the first byte stands that shows the fault, counted in bytes from 0.
@@ -36,6 +37,17 @@ impl From<Memory> for RegexpFault {
     ghost from_gives = { λ _ fault. fault ≡ memory };
 
     fn from(_error: Memory) -> RegexpFault {
+        RegexpFault::Memory
+    }
+}
+
+impl<T: Drop> From<AllocFailed<T>> for RegexpFault {
+    ghost use Rattle.std.specs.Prelude.{◌≡◌};
+    ghost use Rattle.emacs_regexp.specs.declared.fault.RegexpFault.TheVariants.{Memory as memory};
+
+    ghost from_gives = { λ _ fault. fault ≡ memory };
+
+    fn from(_error: AllocFailed<T>) -> RegexpFault {
         RegexpFault::Memory
     }
 }

@@ -3,7 +3,9 @@
 #![tactic(auto)]
 
 mod ast;
+mod backwards;
 mod fault;
+mod laws;
 mod lexing;
 mod matching;
 mod places;
@@ -16,6 +18,7 @@ mod token;
 
 pub use ast::{Ast, groups};
 pub use fault::RegexpFault;
+pub use laws::tokens_write_the_tree;
 pub use matching::found;
 pub use reading::read;
 pub use spelling::spell;

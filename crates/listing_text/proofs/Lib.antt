@@ -8,6 +8,5 @@ pub mod MomentLemmas
 pub mod NameLemmas
 pub mod NumberLemmas
 pub mod OrderLemmas
-pub mod PlainLemmas
 pub mod RunLemmas
 pub mod WrittenLemmas

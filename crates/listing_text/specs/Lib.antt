@@ -4,6 +4,5 @@ pub mod Grammar
 pub mod Listed
 pub mod Numbers
 pub mod Order
-pub mod PlainLines
 pub mod Reading
 pub mod Switches

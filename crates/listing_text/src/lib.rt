@@ -9,7 +9,6 @@ mod laws;
 mod line;
 mod numbers;
 mod ordering;
-mod plain;
 mod reading;
 mod switches;
 #[cfg(test)]
@@ -22,7 +21,6 @@ pub use fields::{arrow_place, behind_space};
 pub use laws::{dates_come_back, lines_are_the_grammar, lines_come_back};
 pub use line::{Line, Widths};
 pub use ordering::order;
-pub use plain::{Plain, has_plain_bytes, read_plain};
 pub use reading::{Head, read_head, read_line, read_name, read_target};
 pub use switches::{Switches, read_switches};
 pub use writing::{header_text, line_text, section_text};

@@ -222,7 +222,7 @@ fn read_link_names(
     }
 }
 
-// The name that begins where the rest of a text begins.
+/// The name that begins where the rest of a text begins.
 #[tactic(auto, unfolding(crate::specs::Fields::name_of))]
 pub fn read_name(alloc: Global, bytes: usize, rest: &[u8], shown: &[u8]) -> Result<Text, LineFault>
     ensures { IsOrMemory memory (name_at bytes rest.now shown.now) result }
@@ -239,7 +239,7 @@ pub fn read_name(alloc: Global, bytes: usize, rest: &[u8], shown: &[u8]) -> Resu
     }
 }
 
-// The target of a link: 1 to 4,095 bytes.
+/// The target of a link: 1 to 4,095 bytes.
 #[tactic(auto, unfolding(crate::specs::Fields::target_of))]
 pub fn read_target(alloc: Global, shown: &[u8]) -> Result<Option<Text>, LineFault>
     ensures { IsOrMemory memory (Ok (target_of shown.now)) result }

@@ -1,0 +1,7 @@
+use Rattle.std.proofs.Common.{◌≡◌, map, drop}
+use Rattle.command_words.specs.Commands.{paths_of, path_named}
+use Rattle.command_words.proofs.WordLemmas.{with_paths}
+use Rattle.command_words.proofs.commit.confirmed_by.Given as goal
+
+abbrev pub invariant-loop-word : goal.invariant-loop-word
+invariant-loop-word l = paths_of path_named (map (λ w. w.now) l.words) ≡ with_paths l.paths.items (paths_of path_named (map (λ w. w.now) (drop l.word-index l.words)))

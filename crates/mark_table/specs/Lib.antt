@@ -1,0 +1,5 @@
+pub mod Excess
+pub mod Moves
+pub mod PathMarks
+pub mod Tables
+pub mod Versions
