@@ -4,7 +4,7 @@ ghost use Rattle.dired_text.specs.Answers.{IsOrMemory};
 ghost use Rattle.listing_text.specs.declared.faults.Field.TheVariants as field_of;
 ghost use Rattle.wdired_buffer.specs.declared.faults.BufferFault.TheVariants.{Bad as bad_line, Memory as memory};
 ghost use Rattle.wdired_buffer.specs.declared.faults.BufferCause.TheVariants as cause_of;
-ghost use Rattle.wdired_buffer.specs.Buffer.{buffer_of, line_of, end_of, entry_of, header_of, shown, link_shown, fault_at, or_bad};
+ghost use Rattle.wdired_buffer.specs.Buffer.{buffer_of, max_lines, line_of, end_of, entry_of, header_of, shown, link_shown, fault_at, or_bad};
 ghost use Rattle.wdired_buffer.specs.Headers.{named};
 
 use crate::due::Due;
@@ -32,7 +32,7 @@ pub fn read_buffer(alloc: Global, bytes: &[u8]) -> Result<Vec<BufferLine>, Buffe
     requires { length bytes.now < 4294967295 }
     ensures lines { IfOk result (λ v. buffer_of bytes.now ≡ Ok v.items) }
     ensures refused { IfErr result (λ e. (e ≡ memory) ⊎ (buffer_of bytes.now ≡ Err e)) }
-    ensures few { IfOk result (λ v. vec_len v ≤ 200_000) }
+    ensures few { IfOk result (λ v. vec_len v ≤ max_lines) }
 {
     let count = count_lines(bytes);
     if count > MAX_LINES {
