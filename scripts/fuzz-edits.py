@@ -1,5 +1,6 @@
 #!/usr/bin/env python3
-"""Random edits of a printed buffer: each run of `commit` ends with a status of the program's own, 0 to 25.
+"""Random edits of a printed buffer: each run of `commit` ends with a status of the program's own, 0 to 25. And a buffer of
+200,000 lines is read, while one of 200,001 is too large, status 18.
 
 fuzz-edits.py PROGRAM [COUNT] [SEED]
 
@@ -51,6 +52,19 @@ def changed(rng, text):
     return text
 
 
+def commit(program, work, before, after):
+    """Runs `commit` on these buffers, in the empty folder."""
+    for name, text in (("before", before), ("after", after)):
+        with open(os.path.join(work, name), "wb") as file:
+            file.write(text)
+    return subprocess.run([program, "commit", "../before", "../after"], cwd=os.path.join(work, "tree"), capture_output=True, timeout=60)
+
+
+def of_lines(count):
+    """A buffer of so many lines."""
+    return b"dired 1\n  .:\n  total 0\n" + b"".join(b"  -rw-r--r-- 1 u g 0 1970-01-01 00:00 %d\n" % i for i in range(count - 3))
+
+
 def main():
     program = os.path.realpath(sys.argv[1])
     count = int(sys.argv[2]) if len(sys.argv) > 2 else 100_000
@@ -60,13 +74,15 @@ def main():
     with tempfile.TemporaryDirectory() as work:
         tree = os.path.join(work, "tree")
         os.mkdir(tree)
+        for lines, too_large in ((200_000, False), (200_001, True)):
+            done = commit(program, work, of_lines(lines), b"")
+            if (done.returncode == 18) != too_large:
+                print(f"FAILED: {lines} lines give status {done.returncode}")
+                return 1
         for run in range(count):
             before = changed(rng, BUFFER) if rng.random() < 0.2 else BUFFER
             after = changed(rng, before)
-            for name, text in (("before", before), ("after", after)):
-                with open(os.path.join(work, name), "wb") as file:
-                    file.write(text)
-            done = subprocess.run([program, "commit", "../before", "../after"], cwd=tree, capture_output=True, timeout=60)
+            done = commit(program, work, before, after)
             statuses[done.returncode] = statuses.get(done.returncode, 0) + 1
             if not 0 <= done.returncode <= 25 or done.stderr or os.listdir(tree):
                 sys.stdout.buffer.write(b"FAILED: seed %d, run %d, status %d\n--- before\n%s\n--- after\n%s\n--- errors\n%s\n"

@@ -1,5 +1,5 @@
 -- A buffer's entries and a listing's lines are read alike.
-use Rattle.std.proofs.Common.{◌≡◌, ◌⊎◌, inl, inr, ℕ, ◌+◌, ◌-◌, List, [], ◌∷◌, length, take, drop, refl, Option, Some, None, Result, Ok, Err}
+use Rattle.std.proofs.Common.{◌≡◌, ◌⊎◌, inl, inr, ℕ, ◌+◌, ◌-◌, List, [], length, take, drop, refl, Option, Some, None, Result, Ok, Err}
 use Rattle.dired_text.specs.Paths.{Names}
 use Rattle.dired_text.specs.Resolve.{resolved}
 use Rattle.dired_text.specs.declared.resolving.NameError.{NameError}

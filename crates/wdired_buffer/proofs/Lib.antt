@@ -1,3 +1,4 @@
 pub mod LineLemmas
 pub mod EditLemmas
 pub mod EntryLemmas
+pub mod ShownLemmas

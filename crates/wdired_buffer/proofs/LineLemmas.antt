@@ -1,18 +1,11 @@
--- Lines, and answers line by line.
-use Rattle.std.proofs.Common.{◌≡◌, inl, inr, ℕ, suc, ◌+◌, ◌-◌, ◌<◌, ◌≤◌, Bool, true, false, ◌==◌, List, [], ◌∷◌, ◌++◌, length, take, drop, refl, sym, ◌∙◌, ap, subst, arith, Some, None, Result, Ok, Err, nat_lt, append_assoc, length-drop}
+-- The lines of a text, one by one.
+use Rattle.std.proofs.Common.{◌≡◌, inl, inr, ℕ, suc, ◌+◌, ◌-◌, ◌<◌, ◌≤◌, Bool, ◌==◌, List, [], ◌∷◌, length, take, drop, refl, sym, ◌∙◌, ap, subst, arith, Some, None, nat_lt, length-drop}
 use Rattle.std.specs.List.{position, position_or_len}
-use Rattle.std.proofs.lemmas.Bool.{cases_Bool, ltb-false, le-ltb, lt-ltb}
-use Rattle.std.proofs.lemmas.List.{append-nil, take_rest, take_all, drop_all}
+use Rattle.std.proofs.lemmas.Bool.{cases_Bool, ltb-false}
+use Rattle.std.proofs.lemmas.List.{take_rest, take_all, drop_all}
 use Rattle.std.proofs.lemmas.Option.{cond_some}
 use Rattle.dired_text.specs.Resolve.{with_first}
-use Rattle.listing_text.specs.Reading.{◌>>=◌}
-use Rattle.wdired_buffer.specs.declared.due.Due.{Due}
-use Rattle.wdired_buffer.specs.declared.due.Due.TheVariants as due
-use Rattle.wdired_buffer.specs.declared.faults.BufferFault.{BufferFault}
-use Rattle.wdired_buffer.specs.declared.faults.BufferFault.TheVariants.{TooManyLines}
-use Rattle.wdired_buffer.specs.declared.line.BufferLine.{BufferLine}
-use Rattle.wdired_buffer.specs.Lines.{lines, in_front}
-use Rattle.wdired_buffer.specs.Buffer.{line_of, end_of, lines_from, buffer_of, max_lines}
+use Rattle.wdired_buffer.specs.Lines.{lines}
 
 abbrev is_newline : ℕ → Bool
 is_newline b = b == 10
@@ -65,43 +58,3 @@ split_last (b ∷ bs) e some =
           lines-first b bs ∙ ap (λ (t : List ℕ). t ∷ lines (drop (line_end text + 1) text)) (take_all (line_end text) text end)
           ∙ ap (λ (r : List ℕ). text ∷ lines r) (drop_all (line_end text + 1) text (omega arith))
     ]
-
--- lists in front of one another
-pub in_front-twice : {X E : Type 0} (xs ys : List X) (later : Result (List X) E) → in_front xs (in_front ys later) ≡ in_front (xs ++ ys) later
-in_front-twice xs ys (Ok zs) = ap Ok (sym (append_assoc xs ys zs))
-in_front-twice xs ys (Err e) = refl
-
-pub in_front-nil : {X E : Type 0} (later : Result (List X) E) → in_front [] later ≡ later
-in_front-nil (Ok zs) = refl
-in_front-nil (Err e) = refl
-
--- the first of the lines that are left is of the form, or not
-abbrev Rest : Type 0
-Rest = Result (List BufferLine) BufferFault
-
-pub line_taken : (xs : List BufferLine) (x : BufferLine) (number : ℕ) (here next : Due) (rest text behind : List ℕ) → lines rest ≡ text ∷ lines behind → line_of number here text ≡ Ok (x, next) → in_front xs (lines_from number here (lines rest)) ≡ in_front (xs ++ x ∷ []) (lines_from (number + 1) next (lines behind))
-line_taken xs x number here next rest text behind first line =
-    ap (λ (ls : List (List ℕ)). in_front xs (lines_from number here ls)) first
-    ∙ ap (λ (r : Result (BufferLine × Due) BufferFault). in_front xs (r >>= λ f. in_front (f.0 ∷ []) (lines_from (number + 1) f.1 (lines behind)))) line
-    ∙ in_front-twice xs (x ∷ []) (lines_from (number + 1) next (lines behind))
-
-pub line_refused : (xs : List BufferLine) (e : BufferFault) (number : ℕ) (here : Due) (rest text behind : List ℕ) → lines rest ≡ text ∷ lines behind → line_of number here text ≡ Err e → in_front xs (lines_from number here (lines rest)) ≡ Err e
-line_refused xs e number here rest text behind first line =
-    ap (λ (ls : List (List ℕ)). in_front xs (lines_from number here ls)) first
-    ∙ ap (λ (r : Result (BufferLine × Due) BufferFault). in_front xs (r >>= λ f. in_front (f.0 ∷ []) (lines_from (number + 1) f.1 (lines behind)))) line
-
--- no line is left
-pub lines_done : (xs : List BufferLine) (number : ℕ) (here : Due) (rest : List ℕ) → lines rest ≡ [] → end_of number here ≡ Ok [] → in_front xs (lines_from number here (lines rest)) ≡ Ok xs
-lines_done xs number here rest none may =
-    ap (λ (ls : List (List ℕ)). in_front xs (lines_from number here ls)) none ∙ ap (in_front xs) may ∙ ap Ok (append-nil xs)
-
-pub lines_short : (xs : List BufferLine) (e : BufferFault) (number : ℕ) (here : Due) (rest : List ℕ) → lines rest ≡ [] → end_of number here ≡ Err e → in_front xs (lines_from number here (lines rest)) ≡ Err e
-lines_short xs e number here rest none may =
-    ap (λ (ls : List (List ℕ)). in_front xs (lines_from number here ls)) none ∙ ap (in_front xs) may
-
--- few enough lines, or too many
-pub few_lines : (bytes : List ℕ) → length (lines bytes) ≤ max_lines → buffer_of bytes ≡ lines_from 1 due.First (lines bytes)
-few_lines bytes few = rw (le-ltb max_lines (length (lines bytes)) few) refl
-
-pub many_lines : (bytes : List ℕ) → max_lines < length (lines bytes) → buffer_of bytes ≡ Err (TooManyLines (length (lines bytes)))
-many_lines bytes many = rw (lt-ltb max_lines (length (lines bytes)) many) refl

@@ -1,4 +1,4 @@
--- Texts as lines, and answers line by line.
+-- Texts as lines.
 use Rattle.std.specs.Prelude.{ℕ, ◌==◌, List, [], ◌∷◌, ◌++◌, Result, Ok, Err, if◌then◌else◌}
 use Rattle.dired_text.specs.Resolve.{with_first}
 
@@ -14,8 +14,3 @@ lines (b ∷ bs) = if b == newline then [] ∷ lines bs else with_first b (lines
 abbrev pub in_front : {X E : Type 0} → List X → Result (List X) E → Result (List X) E
 in_front xs (Ok ys) = Ok (xs ++ ys)
 in_front xs (Err e) = Err e
-
--- what a line gives and what the later ones give, or the first refusal
-abbrev pub then_later : {X E : Type 0} → Result (List X) E → Result (List X) E → Result (List X) E
-then_later (Ok xs) later = in_front xs later
-then_later (Err e) later = Err e

@@ -1,5 +1,5 @@
 // What an edited buffer asks for.
-ghost use Rattle.std.specs.Prelude.{◌≡◌, ◌⊎◌, ℕ, ◌<◌, ◌≤◌, ◌||◌, ◌∷◌, ◌++◌, [], min, length, true, false, Ok, Err, IfOk, IfErr, OnOk, option_to_list};
+ghost use Rattle.std.specs.Prelude.{◌≡◌, ◌⊎◌, ◌<◌, ◌||◌, ◌∷◌, ◌++◌, [], length, true, false, Ok, Err, IfOk, IfErr, OnOk, option_to_list};
 ghost use Rattle.std.specs.BTreeSet.{contains};
 ghost use Rattle.dired_text.specs.Answers.{IsOrMemory};
 ghost use Rattle.dired_text.specs.Paths.{Names, path_cmp};
@@ -39,10 +39,7 @@ pub fn edits(alloc: Global, before: &[BufferLine], after: &[u8]) -> Result<Edite
 {
     let count = count_lines(after);
     if count != before.len() {
-        return Err(faulty(
-            count.min(before.len()) as u32 + 1,
-            LineCause::LineCount,
-        ));
+        return Err(faulty(count.min(before.len()) as u32 + 1, LineCause::LineCount));
     }
     let mut edited = Edited::none(alloc);
     let mut passed = Passed::none(alloc);

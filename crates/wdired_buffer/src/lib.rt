@@ -15,6 +15,6 @@ mod typed;
 
 pub use editing::{Edited, edits};
 pub use faults::{BufferCause, BufferFault, EditsFault, LineCause};
-pub use laws::entries_are_lines;
+pub use laws::{entries_are_lines, untouched_lines_ask_nothing};
 pub use line::BufferLine;
 pub use reading::read_buffer;

@@ -1,9 +1,11 @@
 // Reading a buffer.
-ghost use Rattle.std.specs.Prelude.{◌≡◌, ◌⊎◌, ◌<◌, ◌≤◌, ◌+◌, [], ◌∷◌, length, Ok, Err, IfOk, IfErr, IfSome};
+ghost use Rattle.std.specs.Prelude.{◌≡◌, ◌⊎◌, ◌<◌, ◌≤◌, ◌+◌, [], length, Ok, Err, IfOk, IfErr, IfSome, vec_len};
 ghost use Rattle.dired_text.specs.Answers.{IsOrMemory};
+ghost use Rattle.listing_text.specs.declared.faults.Field.TheVariants as field_of;
 ghost use Rattle.wdired_buffer.specs.declared.faults.BufferFault.TheVariants.{Bad as bad_line, Memory as memory};
 ghost use Rattle.wdired_buffer.specs.declared.faults.BufferCause.TheVariants as cause_of;
-ghost use Rattle.wdired_buffer.specs.Buffer.{buffer_of, line_of, end_of, entry_of, header_of, shown, link_shown, fault_at};
+ghost use Rattle.wdired_buffer.specs.Buffer.{buffer_of, max_lines, line_of, end_of, entry_of, header_of, shown, link_shown, fault_at, or_bad};
+ghost use Rattle.wdired_buffer.specs.Headers.{named};
 
 use crate::due::Due;
 use crate::headers::{header_in, is_total, read_dir, read_path};
@@ -30,6 +32,7 @@ pub fn read_buffer(alloc: Global, bytes: &[u8]) -> Result<Vec<BufferLine>, Buffe
     requires { length bytes.now < 4294967295 }
     ensures lines { IfOk result (λ v. buffer_of bytes.now ≡ Ok v.items) }
     ensures refused { IfErr result (λ e. (e ≡ memory) ⊎ (buffer_of bytes.now ≡ Err e)) }
+    ensures few { IfOk result (λ v. vec_len v ≤ max_lines) }
 {
     let count = count_lines(bytes);
     if count > MAX_LINES {
@@ -108,7 +111,11 @@ fn read_header(alloc: Global, number: u32, text: &[u8]) -> Result<(BufferLine, D
 {
     let (hidden, path) = header_in(text).ok_or(bad(number, BufferCause::Header))?;
     let dir = read_dir(alloc, path)?.ok_or(bad(number, BufferCause::Header))?;
-    let due = if hidden { Due::Gap } else { Due::Total(dir.copy()?) };
+    let due = if hidden {
+        Due::Gap
+    } else {
+        Due::Total(dir.copy()?)
+    };
     Ok((
         BufferLine::Header {
             text: Bytes::copy_of(alloc, text)?,
@@ -167,7 +174,7 @@ fn read_shown(
     match kind {
         Kind::Link => read_link(alloc, number, dir, rest, arrow_place(rest)),
         Kind::File | Kind::Dir => {
-            let path = read_path(alloc, dir, rest)?.ok_or(bad(number, BufferCause::Line(Field::Name)))?;
+            let path = read_source(alloc, number, dir, rest)?;
             Ok((path, Text::from_string(String::new(alloc))))
         }
     }
@@ -188,10 +195,17 @@ fn read_link(
     let Some(place) = place else {
         return Err(bad(number, BufferCause::Line(Field::Target)));
     };
-    let path = read_path(alloc, dir, &rest[..place])?.ok_or(bad(number, BufferCause::Line(Field::Name)))?;
+    let path = read_source(alloc, number, dir, &rest[..place])?;
     match read_target(alloc, &rest[place + 4..]) {
         Ok(Some(target)) => Ok((path, target)),
         Ok(None) => Err(bad(number, BufferCause::Line(Field::Target))),
         Err(_) => Err(BufferFault::Memory),
     }
+}
+
+// The path that a name names in a directory's section.
+fn read_source(alloc: Global, number: u32, dir: &Path, name: &[u8]) -> Result<Path, BufferFault>
+    ensures { IsOrMemory memory (or_bad number (cause_of.Line field_of.Name) (named dir.now name.now)) result }
+{
+    read_path(alloc, dir, name)?.ok_or(bad(number, BufferCause::Line(Field::Name)))
 }

@@ -1,5 +1,7 @@
 // Buffers read and edited, by examples.
-use crate::{BufferCause, BufferFault, BufferLine, Edited, EditsFault, LineCause, edits, read_buffer};
+use crate::{
+    BufferCause, BufferFault, BufferLine, Edited, EditsFault, LineCause, edits, read_buffer,
+};
 use dired_text::Memory;
 use listing_text::Field;
 use std::alloc::Global;
@@ -57,7 +59,10 @@ fn refuses_sections(rt: HostRuntime) -> Result<(), Fail> {
         ("dired 1\n  .:\n  total 0\n\n", bad(5, BufferCause::Header)),
         ("dired 1\n  d: ...", None),
         ("dired 1\n  d: ...\n\n  e: ...\n", None),
-        ("dired 1\n  d: ...\n  total 0\n", bad(3, BufferCause::Header)),
+        (
+            "dired 1\n  d: ...\n  total 0\n",
+            bad(3, BufferCause::Header),
+        ),
     ];
     for (text, expected) in rows {
         assert_eq!(rt; fault(&rt, rt.alloc(), text), expected, "at {text}");
@@ -75,12 +80,20 @@ fn refuses_lines(rt: HostRuntime) -> Result<(), Fail> {
         ("-rw-r--r-- 1 u g 0 1970-01-01 00:00 a\\", Field::Name, 4),
         ("lrwxrwxrwx 1 u g 0 1970-01-01 00:00 ..", Field::Target, 4),
         ("lrwxrwxrwx 1 u g 0 1970-01-01 00:00 .. -> ", Field::Name, 4),
-        ("lrwxrwxrwx 1 u g 0 1970-01-01 00:00 a -> ", Field::Target, 4),
+        (
+            "lrwxrwxrwx 1 u g 0 1970-01-01 00:00 a -> ",
+            Field::Target,
+            4,
+        ),
         ("-rw-r--r-- 1 u g 0 1970-01-01 00:00 .\nx", Field::Name, 4),
     ];
     for (text, field, line) in rows {
         let text = format!(in rt.alloc(); "{HEAD}  {text}\n")?;
-        assert_eq!(rt; fault(&rt, rt.alloc(), &text), bad(line, BufferCause::Line(field)), "at {text}");
+        assert_eq!(rt;
+            fault(&rt, rt.alloc(), &text),
+            bad(line, BufferCause::Line(field)),
+            "at {text}"
+        );
     }
     Ok(())
 }
@@ -95,13 +108,19 @@ fn row_of(alloc: Global, line: &BufferLine) -> Result<String, Fail> {
             source,
             was,
             ..
-        } => format!(in alloc; "{name_at} {} {} {}", source.text()?.as_str(), was.mode, was.target.as_str())?,
+        } => format!(in alloc;
+            "{name_at} {} {} {}",
+            source.text()?.as_str(),
+            was.mode,
+            was.target.as_str()
+        )?,
     })
 }
 
 #[test]
 fn reads_lines(rt: HostRuntime) -> Result<(), Fail> {
-    let text = "dired 1\n  a\\\\b/c: ...\n\n  d:\n  total 3\n* -rwsr-xr-x  1 u  g 12 1970-01-01 00:00 n\\n\\\\\\015\n  lrwxrwxrwx 12 uu g  1 1970-01-01 00:00 a -\\076 b -> ../x\n  drwxr-xr-t  1 u  gg 0 1970-01-01 00:00  ./b";
+    let text =
+        "dired 1\n  a\\\\b/c: ...\n\n  d:\n  total 3\n* -rwsr-xr-x  1 u  g 12 1970-01-01 00:00 n\\n\\\\\\015\n  lrwxrwxrwx 12 uu g  1 1970-01-01 00:00 a -\\076 b -> ../x\n  drwxr-xr-t  1 u  gg 0 1970-01-01 00:00  ./b";
     let rows = [
         ".",
         "<a\\b/c>",
@@ -186,20 +205,59 @@ fn edits_a_file(rt: HostRuntime) -> Result<(), Fail> {
         ("-rw-r--r-- 1 u g 0 1970-01-01 00:00 c", Ok("4 a to c;")),
         ("-rw-r--r-- 1 u g 0 1970-01-01 00:00 ./a", Ok("")),
         ("-rw-r--r-- 1 u g 0 1970-01-01 00:00 d/", Ok("4 a to d;")),
-        ("-rw-r--r-- 1 u g 0 1970-01-01 00:00 a//b", Ok("4 a to a/b;")),
-        ("-rw-r--r-- 1 u g 0 1970-01-01 00:00 n\\n\\\\\\015", Ok("4 a to n\n\\\r;")),
-        ("-rw-r--r-- 1 u g 0 1970-01-01 00:00 a -> b", Ok("4 a to a -> b;")),
+        (
+            "-rw-r--r-- 1 u g 0 1970-01-01 00:00 a//b",
+            Ok("4 a to a/b;"),
+        ),
+        (
+            "-rw-r--r-- 1 u g 0 1970-01-01 00:00 n\\n\\\\\\015",
+            Ok("4 a to n\n\\\r;"),
+        ),
+        (
+            "-rw-r--r-- 1 u g 0 1970-01-01 00:00 a -> b",
+            Ok("4 a to a -> b;"),
+        ),
         ("-rw-r--r-- 1 u g 0 1970-01-01 00:00 ", Ok("emptied a;")),
-        ("-rwSr-sr-T 1 u g 0 1970-01-01 00:00 ", Ok("4 a mode 4012;emptied a;")),
-        ("-rwsr-Sr-t 1 u g 0 1970-01-01 00:00 b", Ok("4 a to b mode 4069;")),
-        ("-rw-r--r-- 1 u g 0 1970-01-01 00:00 ..", faulty(4, LineCause::BadName)),
-        ("-rw-r--r-- 1 u g 0 1970-01-01 00:00 a\\", faulty(4, LineCause::BadName)),
-        ("-rw-r--r-- 1 u g 0 1970-01-01 00:00 \u{7f}", faulty(4, LineCause::BadName)),
-        ("-rw-r--rw- 1 u g 0 1970-01-01 00:00 /", faulty(4, LineCause::BadName)),
-        ("-rw-r--r-X 1 u g 0 1970-01-01 00:00 c", faulty(4, LineCause::BadMode)),
-        ("-rw-r--r-- 1 v g 0 1970-01-01 00:00 ..", faulty(4, LineCause::Fixed)),
-        ("drw-r--r-- 1 u g 0 1970-01-01 00:00 a", faulty(4, LineCause::Fixed)),
-        ("-rw-r--r-- 1 u g 0 1970-01-01 00:00", faulty(4, LineCause::Fixed)),
+        (
+            "-rwSr-sr-T 1 u g 0 1970-01-01 00:00 ",
+            Ok("4 a mode 4012;emptied a;"),
+        ),
+        (
+            "-rwsr-Sr-t 1 u g 0 1970-01-01 00:00 b",
+            Ok("4 a to b mode 4069;"),
+        ),
+        (
+            "-rw-r--r-- 1 u g 0 1970-01-01 00:00 ..",
+            faulty(4, LineCause::BadName),
+        ),
+        (
+            "-rw-r--r-- 1 u g 0 1970-01-01 00:00 a\\",
+            faulty(4, LineCause::BadName),
+        ),
+        (
+            "-rw-r--r-- 1 u g 0 1970-01-01 00:00 \u{7f}",
+            faulty(4, LineCause::BadName),
+        ),
+        (
+            "-rw-r--rw- 1 u g 0 1970-01-01 00:00 /",
+            faulty(4, LineCause::BadName),
+        ),
+        (
+            "-rw-r--r-X 1 u g 0 1970-01-01 00:00 c",
+            faulty(4, LineCause::BadMode),
+        ),
+        (
+            "-rw-r--r-- 1 v g 0 1970-01-01 00:00 ..",
+            faulty(4, LineCause::Fixed),
+        ),
+        (
+            "drw-r--r-- 1 u g 0 1970-01-01 00:00 a",
+            faulty(4, LineCause::Fixed),
+        ),
+        (
+            "-rw-r--r-- 1 u g 0 1970-01-01 00:00",
+            faulty(4, LineCause::Fixed),
+        ),
         ("-rw", faulty(4, LineCause::Fixed)),
     ];
     for (line, expected) in rows {
@@ -213,15 +271,42 @@ fn edits_a_file(rt: HostRuntime) -> Result<(), Fail> {
 fn edits_a_link(rt: HostRuntime) -> Result<(), Fail> {
     let rows = [
         ("lrwxrwxrwx 1 u g 1 1970-01-01 00:00 l -> \\170", Ok("")),
-        ("lrwxrwxrwx 1 u g 1 1970-01-01 00:00 l -> a -> b", Ok("5 l target a -> b;")),
-        ("lrwxrwxrwx 1 u g 1 1970-01-01 00:00 m -> y", Ok("5 l to m target y;")),
-        ("lrwxrwxrwx 1 u g 1 1970-01-01 00:00  -> y", Ok("5 l target y;emptied l;")),
-        ("lrwxrwxrwx 1 u g 1 1970-01-01 00:00 a -\\076 b -> x", Ok("5 l to a -> b;")),
-        ("lrwxrwxrwx 1 u g 1 1970-01-01 00:00 l", faulty(5, LineCause::BadTarget)),
-        ("lrwxrwxrwx 1 u g 1 1970-01-01 00:00 ..", faulty(5, LineCause::BadName)),
-        ("lrwxrwxrwx 1 u g 1 1970-01-01 00:00 l -> ", faulty(5, LineCause::BadTarget)),
-        ("lrwxrwxrwx 1 u g 1 1970-01-01 00:00 l -> \\", faulty(5, LineCause::BadTarget)),
-        ("lrwxrwxrw- 1 u g 1 1970-01-01 00:00 l -> ", faulty(5, LineCause::BadMode)),
+        (
+            "lrwxrwxrwx 1 u g 1 1970-01-01 00:00 l -> a -> b",
+            Ok("5 l target a -> b;"),
+        ),
+        (
+            "lrwxrwxrwx 1 u g 1 1970-01-01 00:00 m -> y",
+            Ok("5 l to m target y;"),
+        ),
+        (
+            "lrwxrwxrwx 1 u g 1 1970-01-01 00:00  -> y",
+            Ok("5 l target y;emptied l;"),
+        ),
+        (
+            "lrwxrwxrwx 1 u g 1 1970-01-01 00:00 a -\\076 b -> x",
+            Ok("5 l to a -> b;"),
+        ),
+        (
+            "lrwxrwxrwx 1 u g 1 1970-01-01 00:00 l",
+            faulty(5, LineCause::BadTarget),
+        ),
+        (
+            "lrwxrwxrwx 1 u g 1 1970-01-01 00:00 ..",
+            faulty(5, LineCause::BadName),
+        ),
+        (
+            "lrwxrwxrwx 1 u g 1 1970-01-01 00:00 l -> ",
+            faulty(5, LineCause::BadTarget),
+        ),
+        (
+            "lrwxrwxrwx 1 u g 1 1970-01-01 00:00 l -> \\",
+            faulty(5, LineCause::BadTarget),
+        ),
+        (
+            "lrwxrwxrw- 1 u g 1 1970-01-01 00:00 l -> ",
+            faulty(5, LineCause::BadMode),
+        ),
     ];
     for (line, expected) in rows {
         let after = format!(in rt.alloc(); "{HEAD}{FILE}\n  {line}{NEXT}{DIR}\n")?;
@@ -233,13 +318,31 @@ fn edits_a_link(rt: HostRuntime) -> Result<(), Fail> {
 #[test]
 fn edits_in_a_section(rt: HostRuntime) -> Result<(), Fail> {
     let rows = [
-        ("  d:\n  total 1\n  drwxr-xr-x 1 u g 0 1970-01-01 00:00 ../x", Ok("9 d/e to x;")),
-        ("  d:\n  total 1\n  drwxr-xr-x 1 u g 0 1970-01-01 00:00 x", Ok("9 d/e to d/x;")),
-        ("  d:\n  total 1\n  drwxr-xr-x 1 u g 0 1970-01-01 00:00 ../d/e", Ok("")),
-        ("  d/:\n  total 1\n  drwxr-xr-x 1 u g 0 1970-01-01 00:00 x", faulty(7, LineCause::Fixed)),
-        ("  d:\n  total 2\n  drwxr-xr-x 1 u g 0 1970-01-01 00:00 x", faulty(8, LineCause::Fixed)),
+        (
+            "  d:\n  total 1\n  drwxr-xr-x 1 u g 0 1970-01-01 00:00 ../x",
+            Ok("9 d/e to x;"),
+        ),
+        (
+            "  d:\n  total 1\n  drwxr-xr-x 1 u g 0 1970-01-01 00:00 x",
+            Ok("9 d/e to d/x;"),
+        ),
+        (
+            "  d:\n  total 1\n  drwxr-xr-x 1 u g 0 1970-01-01 00:00 ../d/e",
+            Ok(""),
+        ),
+        (
+            "  d/:\n  total 1\n  drwxr-xr-x 1 u g 0 1970-01-01 00:00 x",
+            faulty(7, LineCause::Fixed),
+        ),
+        (
+            "  d:\n  total 2\n  drwxr-xr-x 1 u g 0 1970-01-01 00:00 x",
+            faulty(8, LineCause::Fixed),
+        ),
         ("  d:\n  total 1", faulty(9, LineCause::LineCount)),
-        ("  d:\n  total 1\n  drwxr-xr-x 1 u g 0 1970-01-01 00:00 e\n\n", faulty(10, LineCause::LineCount)),
+        (
+            "  d:\n  total 1\n  drwxr-xr-x 1 u g 0 1970-01-01 00:00 e\n\n",
+            faulty(10, LineCause::LineCount),
+        ),
     ];
     for (text, expected) in rows {
         let after = format!(in rt.alloc(); "{HEAD}{FILE}\n{LINK}\n\n{text}")?;
@@ -262,12 +365,16 @@ fn edits_to_long_names(rt: HostRuntime) -> Result<(), Fail> {
     let long = str::from_utf8(&long)?;
     for (bytes, fault) in [(255, None), (256, faulty(4, LineCause::BadName).err())] {
         let name = long.get(..bytes).unwrap_or("");
-        let after = format!(in rt.alloc(); "{HEAD}  -rw-r--r-- 1 u g 0 1970-01-01 00:00 {name}\n{LINK}{NEXT}{DIR}")?;
+        let after = format!(in rt.alloc();
+            "{HEAD}  -rw-r--r-- 1 u g 0 1970-01-01 00:00 {name}\n{LINK}{NEXT}{DIR}"
+        )?;
         assert_eq!(rt; edited(&rt, rt.alloc(), BEFORE, &after).err(), fault);
     }
     for (bytes, fault) in [(4095, None), (4096, faulty(5, LineCause::BadTarget).err())] {
         let target = long.get(..bytes).unwrap_or("");
-        let after = format!(in rt.alloc(); "{HEAD}{FILE}\n  lrwxrwxrwx 1 u g 1 1970-01-01 00:00 l -> {target}{NEXT}{DIR}")?;
+        let after = format!(in rt.alloc();
+            "{HEAD}{FILE}\n  lrwxrwxrwx 1 u g 1 1970-01-01 00:00 l -> {target}{NEXT}{DIR}"
+        )?;
         assert_eq!(rt; edited(&rt, rt.alloc(), BEFORE, &after).err(), fault);
     }
     Ok(())

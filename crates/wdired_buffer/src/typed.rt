@@ -53,7 +53,10 @@ pub fn read_typed(
     let (name, target) = texts_in(was.kind, rest);
     let path = typed_path(alloc, dir, name)?.ok_or(faulty(number, LineCause::BadName))?;
     let mode = typed_mode(was, letters_in(after)).ok_or(faulty(number, LineCause::BadMode))?;
-    let target = typed_target(alloc, was.kind, target)?.ok_or(faulty(number, LineCause::BadTarget))?;
+    let target = typed_target(alloc, was.kind, target)?.ok_or(faulty(
+        number,
+        LineCause::BadTarget,
+    ))?;
     Ok(Typed { path, mode, target })
 }
 
@@ -120,7 +123,11 @@ fn is_link(kind: Kind) -> bool
 
 // The target, which a link has; or None where the text is none.
 #[tactic(auto, unfolding(crate::specs::Edits::target_typed))]
-fn typed_target(alloc: Global, kind: Kind, text: Option<&[u8]>) -> Result<Option<Option<Text>>, Memory>
+fn typed_target(
+    alloc: Global,
+    kind: Kind,
+    text: Option<&[u8]>,
+) -> Result<Option<Option<Text>>, Memory>
     ensures { IfOk result (λ target. target ≡ target_typed kind (option_map (λ t. t.now) text.entry)) }
 {
     match kind {
