@@ -1,16 +1,26 @@
 -- When an entry can get another name in its directory.
-use Rattle.std.proofs.Common.{◌≡◌, ◌≢◌, ℕ, ◌+◌, ◌-◌, Bool, true, false, ◌&&◌, List, [], ◌∷◌, ◌++◌, length, take, refl, sym, ◌∙◌, ap, subst, arith, length-append, Option, Some, None, is_some, IsTrue, if◌then◌else◌}
+use Rattle.std.proofs.Common.{◌≡◌, ◌≢◌, ℕ, ◌+◌, ◌-◌, Bool, true, false, ◌&&◌, ◌||◌, not, List, [], ◌∷◌, ◌++◌, length, take, refl, sym, ◌∙◌, ap, subst, arith, length-append, Option, Some, None, is_some, IsTrue, if◌then◌else◌}
+use Rattle.std.proofs.Common.{option_map}
+use Rattle.std.proofs.lemmas.Bool.{and_parts}
 use Rattle.std.proofs.lemmas.List.{append-nil}
+use Rattle.std.proofs.lemmas.Slice.Eq.{bytes_eq-Decides, slice_eq-Decides}
+use Rattle.std.specs.Str.{bytes_eq}
 use Rattle.std.specs.FinMap.{get}
 use Rattle.dired_text.specs.Paths.{Names, rest_below, parent}
 use Rattle.dired_text.proofs.PathLemmas.{rest_below-some, parent-push}
+use Rattle.tree_core.specs.declared.edit.Edit.{Edit}
 use Rattle.tree_core.specs.declared.edit.Shown.{Shown}
 use Rattle.tree_core.specs.declared.node.Node.{Node}
+use Rattle.tree_core.specs.declared.node.Node.TheVariants.{Dir, Link, File}
+use Rattle.tree_core.specs.declared.node.Kind.TheVariants as kind
+use Rattle.tree_core.specs.declared.meta.Meta.{Meta}
+use Rattle.tree_core.specs.Fields.{AreFields}
+use Rattle.dired_cli.specs.Requests.{is_in_place, same_path, only_name}
 use Rattle.tree_core.specs.FileTree.{FileTree, IsTree, IsDir, Stands, CanRename}
 use Rattle.tree_core.specs.History.{History, current_tree}
 use Rattle.dired_cli.specs.declared.requests.NameChange.{NameChange}
 use Rattle.dired_cli.specs.declared.status.Status.{Status}
-use Rattle.dired_cli.specs.Verdicts.{Refuses, Renames, CanBeAsked, on_change, is_as_shown}
+use Rattle.dired_cli.specs.Verdicts.{Refuses, Renames, CanBeAsked, on_change, is_as_shown, is_link_shown}
 
 shown_stands : (was : Shown) (o : Option Node) → is_as_shown was o ≡ true → IsTrue (is_some o)
 shown_stands was None e = cc
@@ -81,3 +91,32 @@ can_change old now change same tree asked allowed =
     can_name (current_tree now) change.source change.to tree asked.0 asked.1 asked.2
     (shown_stands change.was _ (ap (λ h. is_as_shown change.was (get (current_tree h) change.source)) same ∙ tests.0))
     (ap (λ h. is_some (get (current_tree h) change.to)) same ∙ tests.1)
+
+-- of a link, the target that a tree's fields tell is that of what stands
+pub link_shown : (t : FileTree) (fields : Names → Meta) (was : Shown) (p : Names) (o : Option Node) → AreFields t fields → get t p ≡ o → option_map kind_of o ≡ Some was.kind → was.kind ≡ kind.Link → bytes_eq (fields p).target was.target ≡ is_as_shown was o
+link_shown t fields was p None are is has link = cc
+link_shown t fields was p (Some (Dir mode)) are is has link = cc
+link_shown t fields was p (Some (File number bytes mode)) are is has link = cc
+link_shown t fields was p (Some (Link target)) are is has link =
+    ap (λ (l : List ℕ). bytes_eq l was.target) ((are.shows p (Link target) is).target)
+    ∙ sym (ap (λ k. is_link_shown k && bytes_eq target was.target) link)
+
+-- an edit that asks for a new name alone can be asked for
+can_in_place : (source to : Names) → is_in_place source to ≡ true → (source ≢ []) × (to ≢ []) × (parent to ≡ parent source)
+can_in_place [] to is = cc
+can_in_place (x ∷ source) [] is = cc
+can_in_place (x ∷ source) (y ∷ to) is =
+    (
+      (λ none. cc),
+      (λ none. cc),
+      (slice_eq-Decides bytes_eq-Decides (parent (y ∷ to)) (parent (x ∷ source)) _ refl).0 ((and_parts (same_path (parent (y ∷ to)) (parent (x ∷ source))) _ is).0),
+    )
+
+-- the same of the edit's new path
+pub named_can : (edit : Edit) (new : Option Names) (to : Names) → only_name edit new ≡ Some to → (edit.source ≢ []) × (to ≢ []) × (parent to ≡ parent edit.source)
+named_can edit None to is = cc
+named_can edit (Some p) to is = by_test (is_in_place edit.source p && not (is_some edit.target || is_some edit.mode)) refl is
+  where
+    by_test : (test : Bool) → (is_in_place edit.source p && not (is_some edit.target || is_some edit.mode)) ≡ test → (if test then Some p else None) ≡ Some to → (edit.source ≢ []) × (to ≢ []) × (parent to ≡ parent edit.source)
+    by_test true e here = let same : p ≡ to = cc in subst (λ (q : Names). (edit.source ≢ []) × (q ≢ []) × (parent q ≡ parent edit.source)) same (can_in_place edit.source p ((and_parts (is_in_place edit.source p) _ e).0))
+    by_test false e here = cc

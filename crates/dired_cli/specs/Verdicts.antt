@@ -45,10 +45,13 @@ status_of (Lists switches dirs) = Done
 abbrev pub flagged_text : Names → List ℕ
 flagged_text path = codes "flagged " ++ escaped false (joined path) ++ codes "\n"
 
+-- the line of the counts
+abbrev pub counts_text : ℕ → ℕ → List ℕ
+counts_text names flagged = codes "renamed " ++ decimal names ++ codes ", retargeted 0, modes 0, replaced 0, made 0, flagged " ++ decimal flagged ++ codes "\n"
+
 -- what a commit writes, by the number of new names and the emptied names
 abbrev pub summary_text : ℕ → List Names → List ℕ
-summary_text names flagged =
-    flat_map flagged_text flagged ++ codes "renamed " ++ decimal names ++ codes ", retargeted 0, modes 0, replaced 0, made 0, flagged " ++ decimal (length flagged) ++ codes "\n"
+summary_text names flagged = flat_map flagged_text flagged ++ counts_text names (length flagged)
 
 -- what a command writes that was done, on a tree with these fields
 abbrev pub IsOutput : Verdict → FileTree → (Names → Meta) → List ℕ → Type 0

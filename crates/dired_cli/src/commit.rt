@@ -7,7 +7,7 @@ ghost use Rattle.tree_core.specs.FileTree.{CanRename, HasMode, Stands, renamed};
 ghost use Rattle.tree_core.specs.History.{current_tree, IsDurable, LeavesOnly, FailedAt};
 ghost use Rattle.tree_core.specs.Faults.{with_fault};
 ghost use Rattle.dired_cli.specs.Statuses.{ByCause, IsRefusal};
-ghost use Rattle.dired_cli.specs.Verdicts.{IsOldOrEdited, FaultLeaves, is_as_shown as is_as_shown_of, is_mode, IsLook, on_tree, on_change, edited, flagged_text, summary_text, Keeps, Refuses, Renames, CanBeAsked, IsDone};
+ghost use Rattle.dired_cli.specs.Verdicts.{IsOldOrEdited, FaultLeaves, is_as_shown as is_as_shown_of, is_mode, IsLook, on_tree, on_change, edited, flagged_text, counts_text, summary_text, Keeps, Refuses, Renames, CanBeAsked, IsDone};
 
 use crate::Status;
 use crate::requests::{NameChange, Request};
@@ -195,12 +195,19 @@ fn summary(alloc: Global, names: u32, flagged: &[Path]) -> Result<Bytes, Memory>
     for path in flagged {
         push_flagged(&mut text, path)?;
     }
-    let count = flagged.len();
-    let line = format!(in alloc;
-        "renamed {names}, retargeted 0, modes 0, replaced 0, made 0, flagged {count}\n"
+    push_counts(&mut text, names, flagged.len())?;
+    Ok(Bytes::from_vec(text.into_bytes()))
+}
+
+// Pushes the line of the counts.
+fn push_counts(text: &mut String, names: u32, flagged: usize) -> Result<(), Memory>
+    ensures { OnOk result (string_bytes text.new ≡ string_bytes text.old ++ counts_text names flagged) }
+{
+    let line = format!(in *text.allocator();
+        "renamed {names}, retargeted 0, modes 0, replaced 0, made 0, flagged {flagged}\n"
     )?;
     text.push_str(line.as_str())?;
-    Ok(Bytes::from_vec(text.into_bytes()))
+    Ok(())
 }
 
 // Pushes the line of an emptied name.
