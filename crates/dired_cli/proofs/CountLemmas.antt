@@ -1,5 +1,5 @@
 -- A buffer has at most 200,000 lines.
-use Rattle.std.proofs.Common.{◌≡◌, ◌×◌, ◌==◌, ℕ, ◌+◌, ◌≤◌, Bool, true, false, cond, List, [], ◌∷◌, ◌++◌, length, refl, sym, ◌∙◌, ap, arith, Result, Ok, Err, nat_lt}
+use Rattle.std.proofs.Common.{◌≡◌, ◌==◌, ℕ, ◌+◌, ◌≤◌, Bool, true, false, cond, List, [], ◌∷◌, ◌++◌, length, refl, sym, ◌∙◌, ap, arith, Result, Ok, Err, nat_lt}
 use Rattle.std.proofs.lemmas.Bool.{ltb-false}
 use Rattle.listing_text.specs.Reading.{◌>>=◌}
 use Rattle.wdired_buffer.specs.declared.due.Due.{Due}

@@ -15,8 +15,8 @@ use Rattle.tree_core.specs.declared.node.Node.TheVariants.{Dir, Link, File}
 use Rattle.tree_core.specs.declared.node.Kind.TheVariants as kind
 use Rattle.tree_core.specs.declared.meta.Meta.{Meta}
 use Rattle.tree_core.specs.Fields.{AreFields}
-use Rattle.dired_cli.specs.Requests.{is_in_place, same_path, only_name}
-use Rattle.tree_core.specs.FileTree.{FileTree, IsTree, IsDir, Stands, CanRename}
+use Rattle.dired_cli.specs.Requests.{is_in_place, is_own, same_path, only_name}
+use Rattle.tree_core.specs.FileTree.{FileTree, IsTree, IsDir, Stands, CanRename, kind_of}
 use Rattle.tree_core.specs.History.{History, current_tree}
 use Rattle.dired_cli.specs.declared.requests.NameChange.{NameChange}
 use Rattle.dired_cli.specs.declared.status.Status.{Status}
@@ -101,6 +101,10 @@ link_shown t fields was p (Some (Link target)) are is has link =
     ap (λ (l : List ℕ). bytes_eq l was.target) ((are.shows p (Link target) is).target)
     ∙ sym (ap (λ k. is_link_shown k && bytes_eq target was.target) link)
 
+first_part : (a b c : Bool) → (a && b && c) ≡ true → a ≡ true
+first_part true b c is = refl
+first_part false b c is = cc
+
 -- an edit that asks for a new name alone can be asked for
 can_in_place : (source to : Names) → is_in_place source to ≡ true → (source ≢ []) × (to ≢ []) × (parent to ≡ parent source)
 can_in_place [] to is = cc
@@ -109,7 +113,7 @@ can_in_place (x ∷ source) (y ∷ to) is =
     (
       (λ none. cc),
       (λ none. cc),
-      (slice_eq-Decides bytes_eq-Decides (parent (y ∷ to)) (parent (x ∷ source)) _ refl).0 ((and_parts (same_path (parent (y ∷ to)) (parent (x ∷ source))) _ is).0),
+      (slice_eq-Decides bytes_eq-Decides (parent (y ∷ to)) (parent (x ∷ source)) _ refl).0 (first_part (same_path (parent (y ∷ to)) (parent (x ∷ source))) (not (is_own (x ∷ source))) (not (is_own (y ∷ to))) is),
     )
 
 -- the same of the edit's new path

@@ -5,9 +5,9 @@ use Rattle.dired_cli.proofs.program.run.Goals as goal
 
 pub returns-clause-outcome : goal.returns-clause-outcome
 returns-clause-outcome g c tells also =
-    outcome_of _
-    (record { history = g.T.Tree.history c.args.tree.now; fields = g.T.Tree.fields c.args.tree.now; tree_faults = g.T.Tree.faults c.args.tree.now; found = g.T.Tree.before_failed c.args.tree.now; read_faults = g.H.Shelf.faults c.args.shelf.now; last_read = g.H.Shelf.last_failed c.args.shelf.now })
-    _ _ _ _ _ _ _ _ (c.requires.durable tells)
+    let before : Outside = record { history = g.T.Tree.history c.args.tree.now; fields = g.T.Tree.fields c.args.tree.now; tree_faults = g.T.Tree.faults c.args.tree.now; found = g.T.Tree.before_failed c.args.tree.now; read_faults = g.H.Shelf.faults c.args.shelf.now; last_read = g.H.Shelf.last_failed c.args.shelf.now } in
+    let now : Outside = record { history = g.T.Tree.history c.decide-ended.new.tree; fields = g.T.Tree.fields c.decide-ended.new.tree; tree_faults = g.T.Tree.faults c.decide-ended.new.tree; found = g.T.Tree.before_failed c.decide-ended.new.tree; read_faults = g.H.Shelf.faults c.decide-ended.new.shelf; last_read = g.H.Shelf.last_failed c.decide-ended.new.shelf } in
+    outcome_of _ before now _ _ _ _ _ _ _ (c.requires.durable tells)
     (c.decide-ended.ensures.done tells also) (c.decide-ended.ensures.refused tells also) c.decide-ended.ensures.tree_count c.decide-ended.ensures.shelf_count c.decide-ended.ensures.end c.report.ensures
 
 pub returns-clause-read_fault : goal.returns-clause-read_fault
