@@ -13,7 +13,7 @@ use Rattle.dired_cli.specs.declared.status.Status.TheVariants.{Done, Usage, Memo
 use Rattle.dired_cli.specs.Inputs.{Files, input_of, bytes_or_refusal, max_buffer_bytes}
 use Rattle.dired_cli.specs.Requests.{of_inputs, of_buffer, of_edits, with_flagged, changed_to, only_name, only_change}
 use Rattle.dired_cli.specs.Reports.{Said}
-use Rattle.dired_cli.specs.Verdicts.{Verdict, status_of, is_as_shown, on_dirs}
+use Rattle.dired_cli.specs.Verdicts.{Verdict, status_of, is_as_shown, unless, on_dirs}
 use Rattle.dired_cli.specs.Runs.{Outside, Decides, verdict, of_request, of_command}
 use Rattle.dired_cli.specs.WellFormed.{IsAllowed, CanCommit, CanList, IsWellFormed}
 
@@ -27,7 +27,8 @@ held files name bytes is short = ap (bytes_or_refusal name) is ∙ cond-false _ 
 change_done : (edit : Edit) (flagged : List Names) (t : FileTree) → IsAllowed edit t → status_of (of_request (with_flagged flagged (changed_to edit (only_name edit edit.to))) t) ≡ Done
 change_done edit flagged t allowed =
     ap (λ to. status_of (of_request (with_flagged flagged (changed_to edit to)) t)) allowed.name_alone
-    ∙ ap status_of (cond-true (is_as_shown edit.was (get t edit.source)) _ _ allowed.as_shown ∙ cond-false (is_some (get t allowed.to)) _ _ (ap is_some allowed.free))
+    ∙ ap (λ refusal. status_of (unless refusal (record { source = edit.source; was = edit.was; to = allowed.to; line = edit.line }) flagged))
+    (cond-true (is_as_shown edit.was (get t edit.source)) _ _ allowed.as_shown ∙ cond-false (is_some (get t allowed.to)) _ _ (ap is_some allowed.free))
 
 -- nothing asked for, or one edit that is allowed
 done_by : (edits : List Edit) (flagged : List Names) (t : FileTree) → (edits ≡ []) ⊎ ((edit : Edit) × (edits ≡ edit ∷ []) × IsAllowed edit t) → status_of (of_request (with_flagged flagged (only_change edits)) t) ≡ Done

@@ -1,5 +1,4 @@
 mod CompleteLemmas
-mod CountLemmas
 mod NameLemmas
 mod OneLemmas
 mod ReportLemmas

@@ -20,7 +20,7 @@ use Rattle.tree_core.specs.FileTree.{FileTree, IsTree, IsDir, Stands, CanRename,
 use Rattle.tree_core.specs.History.{History, current_tree}
 use Rattle.dired_cli.specs.declared.requests.NameChange.{NameChange}
 use Rattle.dired_cli.specs.declared.status.Status.{Status}
-use Rattle.dired_cli.specs.Verdicts.{Refuses, Renames, CanBeAsked, on_change, is_as_shown, is_link_shown}
+use Rattle.dired_cli.specs.Verdicts.{CanBeAsked, refusal_of, is_as_shown, is_link_shown}
 
 shown_stands : (was : Shown) (o : Option Node) → is_as_shown was o ≡ true → IsTrue (is_some o)
 shown_stands was None e = cc
@@ -77,17 +77,16 @@ can_name t from to tree some_from some_to same stands free = record {
         let taken : is_some (get t to) ≡ true = ap (λ (p : Names). is_some (get t p)) there ∙ stands in
         absurd (let both : true ≡ false = sym taken ∙ free in cc)
 
--- what a verdict that renames says of its two tests
-tests_of : (shown taken : Bool) (x y : Status) (from to p q : Names) (flagged more : List Names) → (if shown then (if taken then Refuses x else Renames from to flagged) else Refuses y) ≡ Renames p q more → (shown ≡ true) × (taken ≡ false)
-tests_of true true x y from to p q flagged more e = cc
-tests_of true false x y from to p q flagged more e = (refl, refl)
-tests_of false taken x y from to p q flagged more e = cc
+-- what it says of the two tests that nothing is refused
+tests_of : (shown taken : Bool) (x y : Status) → (if shown then (if taken then Some x else None) else Some y) ≡ None → (shown ≡ true) × (taken ≡ false)
+tests_of true true x y e = cc
+tests_of true false x y e = (refl, refl)
+tests_of false taken x y e = cc
 
 -- Where the tree allows the change, and looks have changed nothing since, the rename can be made.
-pub can_change : (old now : History) (change : NameChange) → now ≡ old → IsTree (current_tree now) → CanBeAsked (Some change)
-    → ((flagged : List Names) → on_change (Some change) flagged (current_tree old) ≡ Renames change.source change.to flagged) → CanRename (current_tree now) change.source change.to
+pub can_change : (old now : History) (change : NameChange) → now ≡ old → IsTree (current_tree now) → CanBeAsked (Some change) → refusal_of change (current_tree old) ≡ None → CanRename (current_tree now) change.source change.to
 can_change old now change same tree asked allowed =
-    let tests = tests_of (is_as_shown change.was (get (current_tree old) change.source)) (is_some (get (current_tree old) change.to)) _ _ _ _ _ _ _ _ (allowed []) in
+    let tests = tests_of (is_as_shown change.was (get (current_tree old) change.source)) (is_some (get (current_tree old) change.to)) _ _ allowed in
     can_name (current_tree now) change.source change.to tree asked.0 asked.1 asked.2
     (shown_stands change.was _ (ap (λ h. is_as_shown change.was (get (current_tree h) change.source)) same ∙ tests.0))
     (ap (λ h. is_some (get (current_tree h) change.to)) same ∙ tests.1)

@@ -89,14 +89,22 @@ is_mode mode (Some (Dir m)) = m == mode
 is_mode mode (Some (Link target)) = false
 is_mode mode (Some (File number bytes m)) = m == mode
 
--- What the tree says to the one change that is asked for, if any: the line has to show its entry as it is, and nothing may
--- stand at the new path.
+-- Why a change can't be made on a tree, if it can't: the line has to show its entry as it is, and nothing may stand at the new
+-- path.
+abbrev pub refusal_of : NameChange → FileTree → Option Status
+refusal_of change t =
+    if is_as_shown change.was (get t change.source)
+    then (if is_some (get t change.to) then Some (NotBuilt change.line) else None)
+    else Some (Stale change.line)
+
+abbrev pub unless : Option Status → NameChange → List Names → Verdict
+unless None change flagged = Renames change.source change.to flagged
+unless (Some status) change flagged = Refuses status
+
+-- what becomes of the tree by the change that is asked for, if any
 abbrev pub on_change : Option NameChange → List Names → FileTree → Verdict
 on_change None flagged t = Keeps flagged
-on_change (Some change) flagged t =
-    if is_as_shown change.was (get t change.source)
-    then (if is_some (get t change.to) then Refuses (NotBuilt change.line) else Renames change.source change.to flagged)
-    else Refuses (Stale change.line)
+on_change (Some change) flagged t = unless (refusal_of change t) change flagged
 
 abbrev pub on_tree : Request → FileTree → Verdict
 on_tree request t = on_change request.change request.flagged t

@@ -1,13 +1,12 @@
 // The commit of one new name.
-ghost use Rattle.std.specs.Prelude.{◌≡◌, ◌++◌, List, MatchResult, IfOk, IfErr, OnOk, OnErr, Some, is_some, string_bytes};
+ghost use Rattle.std.specs.Prelude.{◌≡◌, ◌++◌, MatchResult, IfOk, IfErr, OnOk, OnErr, Some, None, is_some, string_bytes};
 ghost use Rattle.std.specs.Str.{bytes_eq};
-ghost use Rattle.dired_text.specs.Paths.{Names};
 ghost use Rattle.std.specs.FinMap.{get};
 ghost use Rattle.tree_core.specs.FileTree.{CanRename, HasMode, Stands, renamed};
 ghost use Rattle.tree_core.specs.History.{current_tree, IsDurable, LeavesOnly, FailedAt};
 ghost use Rattle.tree_core.specs.Faults.{with_fault};
 ghost use Rattle.dired_cli.specs.Statuses.{ByCause, IsRefusal};
-ghost use Rattle.dired_cli.specs.Verdicts.{IsOldOrEdited, FaultLeaves, is_as_shown as is_as_shown_of, is_mode, IsLook, on_tree, on_change, edited, flagged_text, counts_text, summary_text, Keeps, Refuses, Renames, CanBeAsked, IsDone};
+ghost use Rattle.dired_cli.specs.Verdicts.{IsOldOrEdited, FaultLeaves, is_as_shown as is_as_shown_of, is_mode, IsLook, refusal_of, on_tree, on_change, edited, flagged_text, counts_text, summary_text, Keeps, Refuses, CanBeAsked, IsDone};
 
 use crate::Status;
 use crate::requests::{NameChange, Request};
@@ -162,13 +161,12 @@ fn commit_change<T: Tree>(
 
 // Whether the change can be made: its line is as shown, and nothing stands at its new path.
 fn look<T: Tree>(alloc: Global, tree: &mut T, change: &NameChange) -> Result<(), Status>
-    ensures ok { T.Tells → OnOk result
-        ((flagged : List Names) → on_change (Some change.now) flagged (current_tree (T.history tree.old)) ≡ Renames change.now.source change.now.to flagged) }
+    ensures ok { T.Tells → OnOk result (refusal_of change.now (current_tree (T.history tree.old)) ≡ None) }
     ensures refused { T.Tells →
         let old = current_tree (T.history tree.old) in
         IfErr result (λ status. ByCause status
         (Unit {0}) (λ first. T.before_failed tree.new ≡ old) (λ _. ⊥)
-        ((flagged : List Names) → on_change (Some change.now) flagged old ≡ Refuses status)) }
+        (refusal_of change.now old ≡ Some status)) }
     ensures history { T.Tells → T.history tree.new ≡ T.history tree.old }
     ensures cause { let same = T.faults tree.new ≡ T.faults tree.old in
         MatchResult result (λ _. same) (λ status. ByCause status
