@@ -3,13 +3,12 @@
 # demo.sh PROGRAM
 set -eu
 program=$(readlink -f "$1")
-here=$(dirname "$(readlink -f "$0")")
 work=$(mktemp -d)
 trap 'rm -rf "$work"' EXIT
 mkdir "$work/photos"
 printf 'a beach\n' > "$work/photos/img_0001.jpg"
 printf 'a hill\n' > "$work/photos/img_0002.jpg"
-bash "$here/listing.sh" "$work/photos" > "$work/before"
+(cd "$work/photos" && "$program" list) > "$work/before"
 sed 's/img_0001\.jpg$/the beach.jpg/' "$work/before" > "$work/after"
 printf -- '--- the listing\n'; cat "$work/before"
 printf -- '--- the edit\n'; diff "$work/before" "$work/after" || true

@@ -4,7 +4,6 @@
 set -u
 top=$(dirname "$(readlink -f "$0")")/..
 program=$(readlink -f "${1:-$top/crates/dired_cli/out/dired_cli}")
-listing="$top/scripts/listing.sh"
 [ -x "$program" ] || { echo "real-folder: no program at $program"; exit 1; }
 work=$(mktemp -d)
 trap 'rm -rf "$work"' EXIT
@@ -17,7 +16,7 @@ fresh() {
     printf 'first\n' > "$work/tree/a"
     printf 'second\n' > "$work/tree/b"
     chmod 644 "$work"/tree/*
-    bash "$listing" "$work/tree" > "$work/before"
+    (cd "$work/tree" && "$program" list > "$work/before")
     cp "$work/before" "$work/after"
 }
 
@@ -48,6 +47,16 @@ fresh; sed -i 's/ a$/ née x/' "$work/after"
 run 'a name with a space and a letter beyond ASCII' 0 "$done_one" commit ../before ../after
 [ "$(cat "$work/tree/née x")" = first ] || { failed=1; echo 'FAILED: the new name'; }
 
+fresh; mkdir "$work/tree/d"; ln -s a "$work/tree/l"; : > "$work/tree/d/x"; (cd "$work/tree" && "$program" list d > ../before)
+sed 's/ d$/ e/' "$work/before" > "$work/after"; run 'a directory' 0 "$done_one" commit ../before ../after
+[ -e "$work/tree/e/x" ] || { failed=1; echo 'FAILED: a directory'; }
+fresh; ln -s a "$work/tree/l"; (cd "$work/tree" && "$program" list > ../before)
+sed 's/ l -> a$/ m -> a/' "$work/before" > "$work/after"; run 'a link' 0 "$done_one" commit ../before ../after
+[ "$(readlink "$work/tree/m")" = a ] || { failed=1; echo 'FAILED: a link'; }
+fresh; mkdir "$work/tree/d"; : > "$work/tree/d/x"; (cd "$work/tree" && "$program" list d > ../before)
+sed 's/ x$/ n\\n\\\\\\015/' "$work/before" > "$work/after"; run 'an escaped name in a directory below' 0 "$done_one" commit ../before ../after
+[ -e "$work/tree/d/n"$'\n\\\r' ] || { failed=1; echo 'FAILED: an escaped name'; ls -b "$work/tree/d"; }
+
 fresh; before=$(shown); run 'no edit' 0 "$done_none" commit ../before ../after; unchanged 'no edit' "$before"
 fresh; printf '%s' "$(cat "$work/before")" > "$work/after"
 run 'AFTER without its last newline' 0 "$done_none" commit ../before ../after
@@ -57,11 +66,11 @@ run 'no words' 1 $'dired: usage: list, commit, run, recover or drill\n'
 run 'no such AFTER' 6 $'dired: no such input: ../nothing\n' commit ../before ../nothing
 run 'no such BEFORE' 6 $'dired: no such input: no\\nline\n' commit $'no\nline' ../after
 run 'an input that is a directory' 3 $'dired: cannot read .\n' commit . ../after
-printf '' > "$work/empty"; run 'an empty BEFORE' 23 $'dired: line 1: not built yet\n' commit ../empty ../after
+printf '' > "$work/empty"; run 'an empty BEFORE' 7 $'dired: ../empty, line 1: FirstLine\n' commit ../empty ../after
 printf '' > "$work/empty"; run 'an empty AFTER' 8 $'dired: line 1: LineCount\n' commit ../before ../empty
 printf 'dired 1\n  .:\n  total 0\n' > "$work/none"; run 'no files' 0 "$done_none" commit ../none ../none
 sed 's/ b$/ \xff/' "$work/before" > "$work/bytes"
-run 'a BEFORE that is no UTF-8' 23 $'dired: line 5: not built yet\n' commit ../bytes ../bytes
+run 'a BEFORE that is no UTF-8' 7 $'dired: ../bytes, line 5: Line Name\n' commit ../bytes ../bytes
 run 'an AFTER that is no UTF-8' 8 $'dired: line 5: BadName\n' commit ../before ../bytes
 head -c 33554433 /dev/zero > "$work/large"
 run 'too large' 18 $'dired: too large: BufferBytes 33554433\n' commit ../large ../after
@@ -75,7 +84,23 @@ run 'another directory' 23 $'dired: line 4: not built yet\n' commit ../before ..
 sed 's/ a$/ .wdired-commit/' "$work/before" > "$work/after"
 run 'the name of the staging directory' 23 $'dired: line 4: not built yet\n' commit ../before ../after
 sed 's/ a$/ c/; s/^  -rw-r--r--/  -rw-r-----/' "$work/before" > "$work/after"
-run 'a mode edited' 8 $'dired: line 4: Fixed\n' commit ../before ../after
+run 'a mode edited besides' 23 $'dired: line 4: not built yet\n' commit ../before ../after
+sed 's/ a$/ c/; s/ 1 / 2 /' "$work/before" > "$work/after"
+run 'a link count edited' 8 $'dired: line 4: Fixed\n' commit ../before ../after
+sed 's/^  -rw-r--r--/  -rw-r--r-?/' "$work/before" > "$work/after"
+run 'letters that are no mode' 8 $'dired: line 4: BadMode\n' commit ../before ../after
+sed 's/ a$/ /' "$work/before" > "$work/after"
+run 'an emptied name' 0 $'flagged a\n'"${done_none%0*}"$'1\n' commit ../before ../after
+sed '4s/ a$/ b/' "$work/before" > "$work/twice"
+run 'a line that stands twice' 8 $'dired: line 5: Twice\n' commit ../twice ../twice
+sed 's/^dired 1/dired 2/' "$work/before" > "$work/second"
+run 'another first line' 7 $'dired: ../second, line 1: FirstLine\n' commit ../second ../after
+sed 's/^  -rw-r--r--/  -rw-r--r-/' "$work/before" > "$work/eight"
+run 'eight mode letters' 7 $'dired: ../eight, line 4: Line Mode\n' commit ../eight ../after
+sed 's/ a$/ c/' "$work/before" > "$work/after"
+run 'a path that is confirmed by the root' 1 $'dired: usage: list, commit, run, recover or drill\n' commit ../before ../after .
+printf 'dired 1\n  .:\n  total 0\n%200000s' '' | tr ' ' '\n' > "$work/many"
+run 'too many lines' 18 $'dired: too large: BufferLines 200003\n' commit ../many ../many
 unchanged 'refusals' "$before"
 
 fresh; sed -i 's/ a$/ c/' "$work/after"; chmod 600 "$work/tree/a"; before=$(shown)

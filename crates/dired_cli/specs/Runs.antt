@@ -1,5 +1,5 @@
 -- What a run does, as a function of its words, its inputs and the tree that it finds.
-use Rattle.std.specs.Prelude.{◌≡◌, ℕ, Bool, true, false, List, Option, Some, None, Result, Ok, Err}
+use Rattle.std.specs.Prelude.{◌≡◌, ℕ, Bool, true, false, List, Option, Some, Result, Ok, Err}
 use Rattle.dired_text.specs.Counts.{raised}
 use Rattle.dired_text.specs.Paths.{Names}
 use Rattle.tree_core.specs.declared.faults.Faults.{Faults}
