@@ -108,12 +108,11 @@ first_part false b c is = cc
 can_in_place : (source to : Names) → is_in_place source to ≡ true → (source ≢ []) × (to ≢ []) × (parent to ≡ parent source)
 can_in_place [] to is = cc
 can_in_place (x ∷ source) [] is = cc
-can_in_place (x ∷ source) (y ∷ to) is =
-    (
-      (λ none. cc),
-      (λ none. cc),
-      (slice_eq-Decides bytes_eq-Decides (parent (y ∷ to)) (parent (x ∷ source)) _ refl).0 (first_part (same_path (parent (y ∷ to)) (parent (x ∷ source))) (not (is_own (x ∷ source))) (not (is_own (y ∷ to))) is),
-    )
+can_in_place (x ∷ source) (y ∷ to) is = (
+  (λ none. cc),
+  (λ none. cc),
+  (slice_eq-Decides bytes_eq-Decides (parent (y ∷ to)) (parent (x ∷ source)) _ refl).0 (first_part (same_path (parent (y ∷ to)) (parent (x ∷ source))) (not (is_own (x ∷ source))) (not (is_own (y ∷ to))) is),
+)
 
 -- the same of the edit's new path
 pub named_can : (edit : Edit) (new : Option Names) (to : Names) → only_name edit new ≡ Some to → (edit.source ≢ []) × (to ≢ []) × (parent to ≡ parent edit.source)

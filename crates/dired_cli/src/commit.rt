@@ -52,11 +52,7 @@ pub fn commit_one<T: Tree>(tree: &mut T, from: &Path, to: &Path) -> Result<(), C
 ///
 /// # Errors
 /// `Stale`, `NotBuilt` or want of memory, with the tree as before, or the first failed call of the tree.
-pub fn carry_out<T: Tree>(
-    alloc: Global,
-    tree: &mut T,
-    request: Request,
-) -> Result<Bytes, Status>
+pub fn carry_out<T: Tree>(alloc: Global, tree: &mut T, request: Request) -> Result<Bytes, Status>
     requires can { CanBeAsked request.change }
     requires durable { T.Tells → IsDurable (T.history tree.old) }
 
@@ -87,11 +83,7 @@ pub fn carry_out<T: Tree>(
 }
 
 // Where nothing is asked for.
-fn sync_alone<T: Tree>(
-    alloc: Global,
-    tree: &mut T,
-    flagged: &[Path],
-) -> Result<Bytes, Status>
+fn sync_alone<T: Tree>(alloc: Global, tree: &mut T, flagged: &[Path]) -> Result<Bytes, Status>
     requires durable { T.Tells → IsDurable (T.history tree.old) }
 
     ensures done { T.Tells → IfOk result (λ text. IsDone (Keeps flagged.now) (current_tree (T.history tree.old)) (T.fields tree.old) (T.history tree.new) text) }

@@ -66,7 +66,12 @@ pub fn asked_for<H: Shelf>(
         Ok(bytes) => bytes,
         Err(status) => return Err(status),
     };
-    compare(alloc, before, before_bytes.as_slice(), after_bytes.as_slice())
+    compare(
+        alloc,
+        before,
+        before_bytes.as_slice(),
+        after_bytes.as_slice(),
+    )
 }
 
 // What the bytes of the two buffers ask for, of which the first is the input of this name.
@@ -135,8 +140,7 @@ fn name_change(edit: &Edit) -> Result<Option<NameChange>, Status>
     let Some(to) = only_name(edit) else {
         return Err(Status::NotBuilt { line: edit.line });
     };
-    let (Ok(source), Ok(target), Ok(to)) =
-        (edit.source.copy(), edit.was.target.copy(), to.copy())
+    let (Ok(source), Ok(target), Ok(to)) = (edit.source.copy(), edit.was.target.copy(), to.copy())
     else {
         return Err(Status::Memory);
     };
@@ -157,9 +161,8 @@ fn only_name(edit: &Edit) -> Option<&Path>
     ensures { option_map (λ p. p.now) result ≡ only_name_of edit.now edit.now.to }
 {
     match &edit.to {
-        Some(to) if is_in_place(&edit.source, to) && edit.target.is_none() && edit.mode.is_none() => {
-            Some(to)
-        }
+        Some(to) if is_in_place(&edit.source, to) && edit.target.is_none() && edit.mode.is_none() =>
+            { Some(to) }
         _ => None,
     }
 }

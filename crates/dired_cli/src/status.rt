@@ -4,8 +4,8 @@ ghost use Rattle.std.specs.String.{string_bytes};
 ghost use Rattle.dired_cli.specs.Statuses.{call_text as call_text_of, cause_text as cause_text_of, line_text as line_text_of, field_text as field_text_of, buffer_text, bad_line_text as bad_line_text_of};
 
 use dired_text::{Memory, Text, escape};
-use std::alloc::Global;
 use listing_text::Field;
+use std::alloc::Global;
 use tree_core::CallName;
 use wdired_buffer::{BufferCause, LineCause};
 
@@ -29,14 +29,22 @@ pub enum Status {
     /// An allocation was refused. The tree is as before.
     Memory,
     /// The input of this name could not be read.
-    ReadFault { name: Text },
+    ReadFault {
+        name: Text,
+    },
     /// This call of the tree failed.
-    TreeFault { first: CallName },
+    TreeFault {
+        first: CallName,
+    },
     /// The output could not be written. `held` is the number of the status whose text was being written, 0 for the
     /// output of a command that was done.
-    WriteFault { held: u8 },
+    WriteFault {
+        held: u8,
+    },
     /// There is no input of this name, or no directory at this path of the tree.
-    Missing { name: Text },
+    Missing {
+        name: Text,
+    },
     /// This line of the input of this name, counted from 1, is the first that is no line of a listing, for this cause.
     BadBuffer {
         name: Text,
@@ -44,13 +52,23 @@ pub enum Status {
         cause: BufferCause,
     },
     /// This line of AFTER, counted from 1, can't be taken, for this cause.
-    Faulty { line: u32, cause: LineCause },
+    Faulty {
+        line: u32,
+        cause: LineCause,
+    },
     /// The entry of this line, counted from 1, is not as the line shows it.
-    Stale { line: u32 },
+    Stale {
+        line: u32,
+    },
     /// A quantity is above its limit. `number` is the limit plus 1 for bytes, and for lines their number.
-    TooLarge { what: Counted, number: u64 },
+    TooLarge {
+        what: Counted,
+        number: u64,
+    },
     /// This line, counted from 1, asks for something that the program can't do yet.
-    NotBuilt { line: u32 },
+    NotBuilt {
+        line: u32,
+    },
 }
 
 impl Status {

@@ -171,13 +171,34 @@ fn commits_and_refusals(rt: HostRuntime) -> Result<(), Fail> {
         (one, taken, 0o644, 23, not_built, "ab"),
         (BEFORE, mode, 0o644, 23, not_built, "ab"),
         (BEFORE, below, 0o644, 23, not_built, "ab"),
-        (BEFORE, both, 0o644, 23, "dired: line 5: not built yet\n", "ab"),
+        (
+            BEFORE,
+            both,
+            0o644,
+            23,
+            "dired: line 5: not built yet\n",
+            "ab",
+        ),
         (BEFORE, RENAMED, 0o600, 10, STALE, "ab"),
         (BEFORE, owner, 0o644, 8, "dired: line 4: Fixed\n", "ab"),
         (BEFORE, longer, 0o644, 8, "dired: line 6: LineCount\n", "ab"),
         (BEFORE, root, 0o644, 8, "dired: line 4: BadName\n", "ab"),
-        (other, other, 0o644, 7, "dired: B, line 1: FirstLine\n", "ab"),
-        (eight, eight, 0o644, 7, "dired: B, line 4: Line Mode\n", "ab"),
+        (
+            other,
+            other,
+            0o644,
+            7,
+            "dired: B, line 1: FirstLine\n",
+            "ab",
+        ),
+        (
+            eight,
+            eight,
+            0o644,
+            7,
+            "dired: B, line 4: Line Mode\n",
+            "ab",
+        ),
     ];
     for (before, after, mode, number, output, left) in cases {
         let mut tree = tree_of(alloc, &["a", "b"], mode)?;
