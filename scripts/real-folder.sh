@@ -83,7 +83,7 @@ sed 's/ a$/ x\/c/' "$work/before" > "$work/after"
 run 'another directory' 23 $'dired: line 4: not built yet\n' commit ../before ../after
 sed 's/ a$/ .wdired-commit/' "$work/before" > "$work/after"
 run 'the name of the staging directory' 23 $'dired: line 4: not built yet\n' commit ../before ../after
-sed 's/ a$/ c/; s/^  -rw-r--r--/  -rw-r-----/' "$work/before" > "$work/after"
+sed '4s/ a$/ c/; 4s/^  -rw-r--r--/  -rw-r-----/' "$work/before" > "$work/after"
 run 'a mode edited besides' 23 $'dired: line 4: not built yet\n' commit ../before ../after
 sed 's/ a$/ c/; s/ 1 / 2 /' "$work/before" > "$work/after"
 run 'a link count edited' 8 $'dired: line 4: Fixed\n' commit ../before ../after
@@ -99,8 +99,8 @@ sed 's/^  -rw-r--r--/  -rw-r--r-/' "$work/before" > "$work/eight"
 run 'eight mode letters' 7 $'dired: ../eight, line 4: Line Mode\n' commit ../eight ../after
 sed 's/ a$/ c/' "$work/before" > "$work/after"
 run 'a path that is confirmed by the root' 1 $'dired: usage: list, commit, run, recover or drill\n' commit ../before ../after .
-printf 'dired 1\n  .:\n  total 0\n%200000s' '' | tr ' ' '\n' > "$work/many"
-run 'too many lines' 18 $'dired: too large: BufferLines 200003\n' commit ../many ../many
+{ printf 'dired 1\n  .:\n  total 0\n'; yes '' | head -n 199998; } > "$work/many"
+run 'too many lines' 18 $'dired: too large: BufferLines 200001\n' commit ../many ../many
 unchanged 'refusals' "$before"
 
 fresh; sed -i 's/ a$/ c/' "$work/after"; chmod 600 "$work/tree/a"; before=$(shown)
