@@ -1,0 +1,4 @@
+mod OneLineLemmas
+mod ReadLemmas
+mod SectionLemmas
+mod PrintedLemmas

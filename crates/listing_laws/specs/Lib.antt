@@ -1,0 +1,4 @@
+pub mod OneLine
+pub mod LineLaws
+pub mod ReadLaws
+pub mod Printed
