@@ -7,17 +7,9 @@ set -eu
 program=$(readlink -f "$1")
 work=$(mktemp -d)
 trap 'rm -rf "$work"' EXIT
+. "$(dirname "$(readlink -f "$0")")/timing.sh"
 mkdir "$work/empty"
 
-# milliseconds that a command takes, the least of five runs
-least() {
-    local best=999999999 start end
-    for _ in 1 2 3 4 5; do
-        start=$(date +%s%N); "$@" > /dev/null; end=$(date +%s%N)
-        [ $((end - start)) -ge "$best" ] || best=$((end - start))
-    done
-    awk -v n="$best" 'BEGIN { printf "%.1f", n / 1000000 }'
-}
 commit() { cd "$work/empty"; "$program" commit ../before "../$1" || true; cd - > /dev/null; }
 digest() { cat "$work/before" "$work/$1" | md5sum; }
 

@@ -7,16 +7,8 @@ top=$(dirname "$(readlink -f "$0")")/..
 program=$(readlink -f "${1:-$top/crates/dired_cli/out/dired_cli}")
 work=$(mktemp -d)
 trap 'rm -rf "$work"' EXIT
+. "$(dirname "$(readlink -f "$0")")/timing.sh"
 
-# milliseconds that a command takes, the least of five runs
-least() {
-    local best=999999999 start end
-    for _ in 1 2 3 4 5; do
-        start=$(date +%s%N); "$@" > /dev/null; end=$(date +%s%N)
-        [ $((end - start)) -ge "$best" ] || best=$((end - start))
-    done
-    awk -v n="$best" 'BEGIN { printf "%.1f", n / 1000000 }'
-}
 in_tree() { (cd "$work/tree" && "$@"); }
 
 for files in 49990 99980; do

@@ -7,6 +7,7 @@ top=$(dirname "$(readlink -f "$0")")/..
 program=$(readlink -f "${1:-$top/crates/dired_cli/out/dired_cli}")
 work=$(mktemp -d)
 trap 'rm -rf "$work"' EXIT
+. "$(dirname "$(readlink -f "$0")")/timing.sh"
 mkdir "$work/programs"
 
 # A program of this name that notes that it was started, and runs the host's own.
@@ -16,15 +17,6 @@ noted() {
 }
 noted stat; noted sync
 
-# milliseconds that a command takes, the least of five runs
-least() {
-    local best=999999999 start end
-    for _ in 1 2 3 4 5; do
-        prepare; start=$(date +%s%N); "$@" > /dev/null; end=$(date +%s%N)
-        [ $((end - start)) -ge "$best" ] || best=$((end - start))
-    done
-    awk -v n="$best" 'BEGIN { printf "%.1f", n / 1000000 }'
-}
 prepare() { :; }
 list() { "$program" list; }
 host_list() { LC_ALL=C TZ=UTC ls -lA --time-style=long-iso; }

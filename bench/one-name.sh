@@ -6,17 +6,9 @@ top=$(dirname "$(readlink -f "$0")")/..
 program=$(readlink -f "${1:-$top/crates/dired_cli/out/dired_cli}")
 work=$(mktemp -d)
 trap 'rm -rf "$work"' EXIT
+. "$(dirname "$(readlink -f "$0")")/timing.sh"
 mkdir "$work/tree"
 
-# milliseconds that a command takes, the least of five runs
-least() {
-    local best=999999999 start end
-    for _ in 1 2 3 4 5; do
-        start=$(date +%s%N); "$@" > /dev/null; end=$(date +%s%N)
-        [ $((end - start)) -ge "$best" ] || best=$((end - start))
-    done
-    awk -v n="$best" 'BEGIN { printf "%.1f", n / 1000000 }'
-}
 commit() { cd "$work/tree"; : > zz; rm -f zy; chmod 644 zz; "$program" commit ../before ../after; cd - > /dev/null; }
 digest() { cat "$work/before" "$work/after" | md5sum; }
 
