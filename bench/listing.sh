@@ -17,7 +17,6 @@ noted() {
 }
 noted stat; noted sync
 
-prepare() { :; }
 list() { "$program" list; }
 host_list() { LC_ALL=C TZ=UTC ls -lA --time-style=long-iso; }
 commit() { "$program" commit ../before ../after; }
