@@ -5,4 +5,5 @@ pub mod NumberLemmas
 pub mod RowLemmas
 pub mod StemLemmas
 pub mod TextLemmas
+pub mod ToggleLemmas
 pub mod VersionLemmas

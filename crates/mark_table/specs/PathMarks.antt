@@ -2,6 +2,7 @@
 use Rattle.std.specs.Prelude.{ℕ, ◌==◌, ◌≤◌, Bool, ◌&&◌, nat_le, List, [], ◌∷◌, Option, Some, None, if◌then◌else◌}
 use Rattle.std.specs.FinMap.{FinMap, get, insert, remove, keys}
 use Rattle.std.specs.List.{list_any}
+use Rattle.std.specs.Option.{option_eq}
 use Rattle.std.specs.Ordering.{eq_by_cmp}
 use Rattle.dired_text.specs.Paths.{Names, path_cmp}
 
@@ -17,6 +18,10 @@ IsMark b = (33 ≤ b) × (b ≤ 126)
 
 abbrev pub is_among : Names → List Names → Bool
 is_among p ps = list_any (eq_by_cmp path_cmp p) ps
+
+-- whether p has this mark, or none where that is asked for
+abbrev pub has_mark : PathMarks → Option ℕ → Names → Bool
+has_mark m mark p = option_eq (λ a b. a == b) (get m p) mark
 
 -- with this mark at p, or none
 abbrev pub marked : PathMarks → Names → Option ℕ → PathMarks

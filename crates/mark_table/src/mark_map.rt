@@ -1,7 +1,8 @@
 // One mark at each path.
-ghost use Rattle.std.specs.Prelude.{◌≡◌, IfOk, IfSome, OnOk, OnErr, count_by, ◌==◌};
+ghost use Rattle.std.specs.Prelude.{◌≡◌, IfOk, IfSome, OnOk, OnErr, Some, None, count_by, map as each, ◌==◌};
+ghost use Rattle.std.specs.List.{filter};
 ghost use Rattle.std.specs.FinMap as map;
-ghost use Rattle.mark_table.specs.PathMarks.{IsMark, cleared, marked, replaced};
+ghost use Rattle.mark_table.specs.PathMarks.{IsMark, cleared, has_mark, marked, replaced, with_each};
 
 use dired_text::{Memory, Path};
 use std::alloc::Global;
@@ -79,6 +80,40 @@ impl MarkMap {
                 Ok(())
             }
             Some(mark) => self.insert(path.copy()?, mark),
+        }
+    }
+
+    /// Those of these paths that have this mark, or none, in their order.
+    pub fn those<'a>(&self, paths: &'a [Path], mark: Option<u8>) -> Result<Vec<&'a Path>, Memory>
+        ensures { IfOk result (λ v. each (λ p. p.now) v.items ≡ filter (has_mark self.now mark) paths.now) }
+    {
+        let mut found = Vec::with_capacity(self.alloc, paths.len())?;
+        for path in paths {
+            if self.get(path) == mark {
+                found.push(path)?;
+            }
+        }
+        Ok(found)
+    }
+
+    /// Gives each of these paths this mark. After a refusal some of them may have it, and no other path has changed.
+    pub fn insert_each(&mut self, paths: &[&Path], mark: u8) -> Result<(), Memory>
+        requires { IsMark mark }
+        ensures ok { OnOk result (self.new ≡ with_each (λ _. Some mark) (each (λ p. p.now) paths.now) self.old) }
+        ensures err { OnErr result (with_each (λ _. None) (each (λ p. p.now) paths.now) self.new ≡ with_each (λ _. None) (each (λ p. p.now) paths.now) self.old) }
+    {
+        for path in paths {
+            self.insert(path.copy()?, mark)?;
+        }
+        Ok(())
+    }
+
+    /// Takes the mark of each of these paths away.
+    pub fn remove_each(&mut self, paths: &[&Path])
+        ensures { self.new ≡ with_each (λ _. None) (each (λ p. p.now) paths.now) self.old }
+    {
+        for path in paths {
+            self.remove(path);
         }
     }
 

@@ -2,7 +2,7 @@
 ghost use Rattle.std.specs.Prelude.{◌≡◌, IfOk, IfSome, OnOk, OnErr, count_by, ◌==◌, ◌&&◌};
 ghost use Rattle.std.specs.FinMap as map;
 ghost use Rattle.dired_text.specs.Answers.{IsOrMemory};
-ghost use Rattle.mark_table.specs.PathMarks.{IsMark, cleared, flipped as flipped_mark, is_mark as is_mark_byte, replaced, toggled};
+ghost use Rattle.mark_table.specs.PathMarks.{IsMark, cleared, is_mark as is_mark_byte, replaced, toggled};
 ghost use Rattle.mark_table.specs.Moves.{moved_marks};
 ghost use Rattle.mark_table.specs.Tables.{can_undo, no_marks, ok_if, saved, undone, with_marks};
 
@@ -31,19 +31,6 @@ pub fn is_mark(byte: u8) -> bool
     ensures { result ≡ is_mark_byte byte }
 {
     33 <= byte && byte <= 126
-}
-
-// `*` becomes none and none becomes `*`.
-fn flipped(mark: Option<u8>) -> Option<u8>
-    requires { IfSome mark IsMark }
-    ensures value { result ≡ flipped_mark mark }
-    ensures mark { IfSome result IsMark }
-{
-    match mark {
-        None => Some(STAR),
-        Some(STAR) => None,
-        Some(other) => Some(other),
-    }
 }
 
 /// The marks of files and directories, at most one at each path, and the copies of all marks that were kept to go back
@@ -142,11 +129,14 @@ impl Marks {
         ensures ok { OnOk result (self.new ≡ with_marks self.old (toggled shown.now self.old.marks)) }
         ensures err { OnErr result (self.new ≡ self.old) }
     {
-        let mut next = self.marks.copy()?;
-        for path in shown {
-            next.put(path, flipped(self.marks.get(path)))?;
+        // Both are read before any mark changes, so a path that stands twice is changed once.
+        let bare = self.marks.those(shown, None)?;
+        let starred = self.marks.those(shown, Some(STAR))?;
+        if let Err(refused) = self.marks.insert_each(&bare, STAR) {
+            self.marks.remove_each(&bare);
+            return Err(refused);
         }
-        self.marks = next;
+        self.marks.remove_each(&starred);
         Ok(())
     }
 

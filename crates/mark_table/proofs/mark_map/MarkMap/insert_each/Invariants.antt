@@ -1,0 +1,8 @@
+use Rattle.std.proofs.Common.{◌≡◌, drop, map, None, Some}
+use Rattle.mark_table.specs.PathMarks.{with_each}
+use Rattle.mark_table.proofs.mark_map.MarkMap.insert_each.Given as goal
+
+abbrev pub invariant-loop-path : goal.invariant-loop-path
+invariant-loop-path l =
+    (with_each (λ _. Some l.mark) (map (λ p. p.now) (drop l.path-index l.paths)) l.self ≡ with_each (λ _. Some l.mark) (map (λ p. p.now) l.paths) l.initial.self)
+    × (with_each (λ _. None) (map (λ p. p.now) l.paths) l.self ≡ with_each (λ _. None) (map (λ p. p.now) l.paths) l.initial.self)
