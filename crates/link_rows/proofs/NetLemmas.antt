@@ -1,0 +1,203 @@
+-- What a link leaves of chains.
+use Rattle.std.specs.Prelude.{slice_index}
+use Rattle.std.proofs.Common.{◌≡◌, ◌≢◌, ℕ, ◌+◌, ◌<◌, ◌≤◌, List, [], ◌∷◌, ◌++◌, length, get_or, refl, ap, sym, subst, ◌∙◌, append_assoc, length-append, arith, rules, zero, suc}
+use Rattle.std.proofs.Math.ListN.{set}
+use Rattle.std.proofs.lemmas.List.{get_or-set_same, get_or-set_other, length-set, append-nil}
+use Rattle.std.proofs.lemmas.Grind.{get_or-set_at}
+use Rattle.link_rows.specs.Net.{Net, AllBelow, Chain, Follows, AllRows, IsList, IsNet, linked, unlinked, relinked, grown, pushed, spliced, next_of, prev_of, nodes}
+
+pub below-get : (n : ℕ) (xs : List ℕ) (i d : ℕ) → AllBelow n xs → i < length xs → get_or xs i d < n
+below-get n [] i d b h = absurd (omega arith)
+below-get n (x ∷ xs) zero d b h = b.0
+below-get n (x ∷ xs) (suc i) d b h = below-get n xs i d b.1 (omega arith)
+
+pub below-set : (n : ℕ) (xs : List ℕ) (i y : ℕ) → AllBelow n xs → y < n → AllBelow n (set xs i y)
+below-set n [] i y b h = tt
+below-set n (x ∷ xs) zero y b h = (h, b.1)
+below-set n (x ∷ xs) (suc i) y b h = (b.0, below-set n xs i y b.1 h)
+
+-- none of these is a
+abbrev pub Misses : ℕ → List ℕ → Type 0
+Misses a [] = Unit {0}
+Misses a (x ∷ xs) = (x ≢ a) × Misses a xs
+
+abbrev pub Unique : List ℕ → Type 0
+Unique [] = Unit {0}
+Unique (x ∷ xs) = Misses x xs × Unique xs
+
+pub misses-append : (a : ℕ) (xs ys : List ℕ) → Misses a (xs ++ ys) → Misses a xs × Misses a ys
+misses-append a [] ys m = (tt, m)
+misses-append a (x ∷ xs) ys m = let r = misses-append a xs ys m.1 in ((m.0, r.0), r.1)
+
+pub misses-join : (a : ℕ) (xs ys : List ℕ) → Misses a xs → Misses a ys → Misses a (xs ++ ys)
+misses-join a [] ys m n = n
+misses-join a (x ∷ xs) ys m n = (m.0, misses-join a xs ys m.1 n)
+
+pub unique-front : (xs ys : List ℕ) → Unique (xs ++ ys) → Unique xs
+unique-front [] ys u = tt
+unique-front (x ∷ xs) ys u = ((misses-append x xs ys u.0).0, unique-front xs ys u.1)
+
+pub unique-missed : (xs : List ℕ) (y : ℕ) (ys : List ℕ) → Unique (xs ++ y ∷ ys) → Misses y xs
+unique-missed [] y ys u = tt
+unique-missed (x ∷ xs) y ys u =
+    let m = (misses-append x xs (y ∷ ys) u.0).1 in
+    ((λ e. m.0 (sym e)), unique-missed xs y ys u.1)
+
+-- chains in parts
+pub split : (s : Net) (i : ℕ) (xs : List ℕ) (r : ℕ) (ys : List ℕ) (j : ℕ) → Chain s i (xs ++ r ∷ ys) j → Chain s i xs r × Chain s r ys j
+split s i [] r ys j c = c
+split s i (x ∷ xs) r ys j c = let d = split s x xs r ys j c.1 in ((c.0, d.0), d.1)
+
+pub join : (s : Net) (i : ℕ) (xs : List ℕ) (r : ℕ) (ys : List ℕ) (j : ℕ) → Chain s i xs r → Chain s r ys j → Chain s i (xs ++ r ∷ ys) j
+join s i [] r ys j c d = (c, d)
+join s i (x ∷ xs) r ys j c d = (c.0, join s x xs r ys j c.1 d)
+
+pub rows-split : (s : Net) (xs ys : List ℕ) → AllRows s (xs ++ ys) → AllRows s xs × AllRows s ys
+rows-split s [] ys m = (tt, m)
+rows-split s (x ∷ xs) ys m = let r = rows-split s xs ys m.1 in ((m.0, r.0), r.1)
+
+pub rows-join : (s : Net) (xs ys : List ℕ) → AllRows s xs → AllRows s ys → AllRows s (xs ++ ys)
+rows-join s [] ys m n = n
+rows-join s (x ∷ xs) ys m n = (m.0, rows-join s xs ys m.1 n)
+
+pub rows-linked : (s : Net) (a b : ℕ) (xs : List ℕ) → AllRows s xs → AllRows (linked a b s) xs
+rows-linked s a b [] m = tt
+rows-linked s a b (x ∷ xs) m = ((m.0.0, rw length-set m.0.1), rows-linked s a b xs m.1)
+
+pub heads-missed : (s : Net) (a : ℕ) (xs : List ℕ) → AllRows s xs → a < s.heads → Misses a xs
+heads-missed s a [] m h = tt
+heads-missed s a (x ∷ xs) m h = ((λ (e : x ≡ a). omega (arith, m.0.0)), heads-missed s a xs m.1 h)
+
+-- what a link does
+pub follows-linked : (s : Net) (a b : ℕ) → a < length s.next → b < length s.prev → Follows (linked a b s) a b
+follows-linked s a b h k = (get_or-set_same s.next a b 0 h, get_or-set_same s.prev b a 0 k)
+
+pub kept : (s : Net) (a b i : ℕ) (xs : List ℕ) (j : ℕ) → Chain s i xs j → i ≢ a → Misses a xs → Misses b xs → j ≢ b → Chain (linked a b s) i xs j
+kept s a b i [] j c h m n k =
+    (get_or-set_other s.next a i b 0 h ∙ c.0, get_or-set_other s.prev b j a 0 k ∙ c.1)
+kept s a b i (x ∷ xs) j c h m n k =
+    ((get_or-set_other s.next a i b 0 h ∙ c.0.0, get_or-set_other s.prev b x a 0 n.0 ∙ c.0.1), kept s a b x xs j c.1 m.0 m.1 n.1 k)
+
+pub last-missed : (s : Net) (i x : ℕ) (xs : List ℕ) (r : ℕ) → Chain s x xs r → Misses i (x ∷ xs) → prev_of s r ≢ i
+last-missed s i x [] r c m = λ e. m.0 (sym c.1 ∙ e)
+last-missed s i x (y ∷ ys) r c m = last-missed s i y ys r c.1 m.1
+
+pub last-follows : (s : Net) (i : ℕ) (xs : List ℕ) (r : ℕ) → Chain s i xs r → Follows s (prev_of s r) r
+last-follows s i [] r c = (ap (λ v. next_of s v) c.1 ∙ c.0, refl)
+last-follows s i (x ∷ xs) r c = last-follows s x xs r c.1
+
+-- The last before r now leads to b.
+pub bend : (s : Net) (a b r i : ℕ) (xs : List ℕ) → Chain s i xs r → prev_of s r ≡ a → Unique (i ∷ xs) → Misses b xs → a < length s.next → b < length s.prev → Chain (linked a b s) i xs b
+bend s a b r i [] c p u m h k =
+    let e : i ≡ a = sym c.1 ∙ p in
+    (get_or-set_at s.next a i b 0 e h, get_or-set_same s.prev b a 0 k ∙ sym e)
+bend s a b r i (x ∷ xs) c p u m h k =
+    let n : i ≢ a = λ e. last-missed s i x xs r c.1 u.0 (p ∙ sym e) in
+    ((get_or-set_other s.next a i b 0 n ∙ c.0.0, get_or-set_other s.prev b x a 0 m.0 ∙ c.0.1), bend s a b r x xs c.1 p u.1 m.1 h k)
+
+-- Where two chains begin at one node and end at heads, they are one.
+pub same : (s : Net) (x : ℕ) (zs : List ℕ) (e : ℕ) (ys : List ℕ) (f : ℕ) → Chain s x zs e → Chain s x ys f → AllRows s zs → AllRows s ys → e < s.heads → f < s.heads → (e ≡ f) × (zs ≡ ys)
+same s x [] e [] f c d m n h k = (sym c.0 ∙ d.0, refl)
+same s x [] e (y ∷ ys) f c d m n h k = let q : e ≡ y = sym c.0 ∙ d.0.0 in absurd (omega (arith, n.0.0))
+same s x (z ∷ zs) e [] f c d m n h k = let q : f ≡ z = sym d.0 ∙ c.0.0 in absurd (omega (arith, m.0.0))
+same s x (z ∷ zs) e (y ∷ ys) f c d m n h k =
+    let q : y ≡ z = sym d.0.0 ∙ c.0.0 in
+    let r = same s z zs e ys f c.1 (subst (λ v. Chain s v ys f) q d.1) m.1 n.1 h k in
+    let t : zs ≡ ys = r.1 in
+    (r.0, cc)
+
+apart-first : (s : Net) (x : ℕ) (ys : List ℕ) (f z : ℕ) (zs : List ℕ) (e : ℕ) → Chain s z zs e → Chain s x ys f → AllRows s zs → AllRows s ys → e < s.heads → f < s.heads → (e ≡ f → length zs < length ys) → z ≢ x
+apart-first s x ys f z zs e c d m n h k l = λ (q : z ≡ x).
+    let t = same s x zs e ys f (subst (λ v. Chain s v zs e) q c) d m n h k in
+    let w : length zs < length ys = l t.0 in
+    let v : length zs ≡ length ys = ap length t.1 in
+    omega arith
+
+pub apart : (s : Net) (x : ℕ) (ys : List ℕ) (f z : ℕ) (zs : List ℕ) (e : ℕ) → Chain s z zs e → Chain s x ys f → AllRows s zs → AllRows s ys → e < s.heads → f < s.heads → (e ≡ f → length zs < length ys) → Misses x (z ∷ zs)
+apart s x ys f z [] e c d m n h k l = (apart-first s x ys f z [] e c d m n h k l, tt)
+apart s x ys f z (w ∷ ws) e c d m n h k l =
+    (apart-first s x ys f z (w ∷ ws) e c d m n h k l, apart s x ys f w ws e c.1 d m.1 n h k (λ q. let v : length (w ∷ ws) < length ys = l q in omega arith))
+
+pub tail-missed : (s : Net) (x : ℕ) (xs : List ℕ) (l : ℕ) → Chain s x xs l → AllRows s xs → l < s.heads → Misses x xs
+tail-missed s x [] l c m h = tt
+tail-missed s x (w ∷ ws) l c m h = apart s x (w ∷ ws) l w ws l c.1 c m.1 m h h (λ _. omega arith)
+
+pub chain-unique : (s : Net) (i : ℕ) (xs : List ℕ) (l : ℕ) → Chain s i xs l → AllRows s xs → l < s.heads → Unique (i ∷ xs)
+chain-unique s i [] l c m h = (tt, tt)
+chain-unique s i (x ∷ xs) l c m h = (tail-missed s i (x ∷ xs) l c m h, chain-unique s x xs l c.1 m.1 h)
+
+-- What leads to another list's head is not in this list.
+pub away : (s : Net) (l : ℕ) (zs : List ℕ) (a : ℕ) (ys : List ℕ) (f : ℕ) → Chain s l zs l → Chain s a ys f → AllRows s zs → AllRows s ys → l < s.heads → f < s.heads → l ≢ f → Misses a (l ∷ zs)
+away s l zs a ys f c d m n h k ne = apart s a ys f l zs l c d m n h k (λ q. absurd (ne q))
+
+pub net-linked : (s : Net) (a b : ℕ) → IsNet s → a < length s.next → b < length s.next → IsNet (linked a b s)
+net-linked s a b t h k = record {
+  as_many = length-set s.prev b a ∙ (t.as_many ∙ sym (length-set s.next a b));
+  heads = rw length-set t.heads;
+  next = rw length-set (below-set (length s.next) s.next a b t.next k);
+  prev = rw length-set (below-set (length s.next) s.prev b a t.prev h);
+}
+
+pub next-below : (s : Net) (i : ℕ) → IsNet s → i < length s.next → next_of s i < length s.next
+next-below s i t h = below-get (length s.next) s.next i 0 t.next h
+
+pub prev-below : (s : Net) (i : ℕ) → IsNet s → i < length s.next → prev_of s i < length s.next
+prev-below s i t h = below-get (length s.next) s.prev i 0 t.prev (rw t.as_many h)
+
+-- Another list stays.
+pub other-kept : (s : Net) (a b m : ℕ) (zs : List ℕ) → IsList s m zs → Misses a (m ∷ zs) → Misses b (m ∷ zs) → IsList (linked a b s) m zs
+other-kept s a b m zs t p q = record {
+  made = t.made;
+  rows = rows-linked s a b zs t.rows;
+  chain = kept s a b m zs m t.chain p.0 p.1 q.1 q.0;
+}
+
+-- A list without a row of it.
+pub unlinked-own : (s : Net) (l : ℕ) (xs : List ℕ) (r : ℕ) (ys : List ℕ) → IsNet s → r < length s.next → IsList s l (xs ++ r ∷ ys) → IsList (unlinked r s) l (xs ++ ys)
+unlinked-own s l xs r [] t h i =
+    let d = split s l xs r [] l i.chain in
+    let e : next_of s r ≡ l = d.1.0 in
+    let m = rows-split s xs (r ∷ []) i.rows in
+    let u = chain-unique s l (xs ++ r ∷ []) l i.chain i.rows i.made in
+    let b : l < length s.prev = omega (arith, t.as_many, t.heads, i.made) in
+    record {
+      made = i.made;
+      rows = rw append-nil (rows-linked s (prev_of s r) (next_of s r) xs m.0);
+      chain = rw append-nil (subst (λ v. Chain (linked (prev_of s r) v s) l xs l) (sym e) (bend s (prev_of s r) l r l xs d.0 refl (unique-front (l ∷ xs) (r ∷ []) u) (heads-missed s l xs m.0 i.made) (prev-below s r t h) b));
+    }
+unlinked-own s l xs r (y ∷ ys) t h i =
+    let d = split s l xs r (y ∷ ys) l i.chain in
+    let e : next_of s r ≡ y = d.1.0.0 in
+    let m = rows-split s xs (r ∷ y ∷ ys) i.rows in
+    let u = chain-unique s l (xs ++ r ∷ y ∷ ys) l i.chain i.rows i.made in
+    let w : Unique (l ∷ ((xs ++ r ∷ []) ++ y ∷ ys)) = rw append_assoc u in
+    let b : y < length s.prev = omega (arith, t.as_many, m.1.1.0.1) in
+    let f : Chain s (prev_of s r) (r ∷ y ∷ ys) l = (last-follows s l xs r d.0, d.1) in
+    let g : Misses (prev_of s r) (y ∷ ys) = apart s (prev_of s r) (r ∷ y ∷ ys) l y ys l d.1.1 f m.1.1.1 m.1 i.made i.made (λ _. omega arith) in
+    let v = unique-missed (l ∷ (xs ++ r ∷ [])) y ys w in
+    record {
+      made = i.made;
+      rows = rows-linked s (prev_of s r) (next_of s r) (xs ++ y ∷ ys) (rows-join s xs (y ∷ ys) m.0 m.1.1);
+      chain = subst (λ v. Chain (linked (prev_of s r) v s) l (xs ++ y ∷ ys) l) (sym e) (join (linked (prev_of s r) y s) l xs y ys l
+        (bend s (prev_of s r) y r l xs d.0 refl (unique-front (l ∷ xs) (r ∷ y ∷ ys) u) (misses-append y xs (r ∷ []) v.1).0 (prev-below s r t h) b)
+        (kept s (prev_of s r) y y ys l d.1.1 g.0 g.1 (tail-missed s y ys l d.1.1 m.1.1.1 i.made) v.0));
+    }
+
+-- the first node of ys, or l
+pub unlinked-other : (s : Net) (l : ℕ) (xs : List ℕ) (r : ℕ) (ys : List ℕ) (m : ℕ) (zs : List ℕ) → IsList s l (xs ++ r ∷ ys) → IsList s m zs → m ≢ l → IsList (unlinked r s) m zs
+unlinked-other s l xs r [] m zs i j n =
+    let d = split s l xs r [] l i.chain in
+    let e : next_of s r ≡ l = d.1.0 in
+    let p = rows-split s xs (r ∷ []) i.rows in
+    let f : Chain s (prev_of s r) (r ∷ []) l = (last-follows s l xs r d.0, d.1) in
+    other-kept s (prev_of s r) (next_of s r) m zs j
+      (away s m zs (prev_of s r) (r ∷ []) l j.chain f j.rows p.1 j.made i.made n)
+      (subst (λ v. Misses v (m ∷ zs)) (sym e) (away s m zs l (xs ++ r ∷ []) l j.chain i.chain j.rows i.rows j.made i.made n))
+unlinked-other s l xs r (y ∷ ys) m zs i j n =
+    let d = split s l xs r (y ∷ ys) l i.chain in
+    let e : next_of s r ≡ y = d.1.0.0 in
+    let p = rows-split s xs (r ∷ y ∷ ys) i.rows in
+    let f : Chain s (prev_of s r) (r ∷ y ∷ ys) l = (last-follows s l xs r d.0, d.1) in
+    other-kept s (prev_of s r) (next_of s r) m zs j
+      (away s m zs (prev_of s r) (r ∷ y ∷ ys) l j.chain f j.rows p.1 j.made i.made n)
+      (subst (λ v. Misses v (m ∷ zs)) (sym e) (away s m zs y ys l j.chain d.1.1 j.rows p.1.1.1 j.made i.made n))

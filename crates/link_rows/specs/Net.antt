@@ -1,0 +1,79 @@
+-- Nodes that are linked both ways by their numbers. The first nodes are heads, one for each list, and the others are rows.
+-- A list's head, its rows in order and its head again follow each other both ways.
+use Rattle.std.specs.Prelude.{ℕ, ◌≡◌, ◌+◌, ◌<◌, ◌≤◌, List, [], ◌∷◌, ◌++◌, length, slice_index, set, refl}
+use Rattle.std.specs.Coded.{Coded, code_by, coded×, coded_ℕ, coded_list}
+
+pub record Net : Type 0 where
+  pub heads : ℕ
+  pub next : List ℕ
+  pub prev : List ℕ
+
+abbrev pub net_code : Coded Net
+net_code =
+    code_by (ℕ × (List ℕ × List ℕ)) (coded× coded_ℕ (coded× (coded_list coded_ℕ) (coded_list coded_ℕ)))
+    (λ s. (s.heads, (s.next, s.prev))) (λ p. record { heads = p.0; next = p.1.0; prev = p.1.1 }) (λ _. refl)
+
+abbrev pub next_of : Net → ℕ → ℕ
+next_of s i = slice_index s.next i
+
+abbrev pub prev_of : Net → ℕ → ℕ
+prev_of s i = slice_index s.prev i
+
+-- how many nodes there are
+abbrev pub nodes : Net → ℕ
+nodes s = length s.next
+
+-- b stands behind a
+abbrev pub linked : ℕ → ℕ → Net → Net
+linked a b s = record { heads = s.heads; next = set s.next a b; prev = set s.prev b a }
+
+-- with one node more, which is linked to no other
+abbrev pub grown : Net → Net
+grown s = record { heads = s.heads; next = s.next ++ length s.next ∷ []; prev = s.prev ++ length s.next ∷ [] }
+
+-- each of these numbers is below n
+abbrev pub AllBelow : ℕ → List ℕ → Type 0
+AllBelow n [] = Unit {0}
+AllBelow n (x ∷ xs) = (x < n) × AllBelow n xs
+
+-- each link leads to a node
+pub record IsNet (s : Net) : Type 0 where
+  pub as_many : length s.prev ≡ length s.next
+  pub heads : s.heads ≤ length s.next
+  pub next : AllBelow (length s.next) s.next
+  pub prev : AllBelow (length s.next) s.prev
+
+-- b follows a both ways
+abbrev pub Follows : Net → ℕ → ℕ → Type 0
+Follows s a b = (next_of s a ≡ b) × (prev_of s b ≡ a)
+
+-- from a through xs to b
+abbrev pub Chain : Net → ℕ → List ℕ → ℕ → Type 0
+Chain s a [] b = Follows s a b
+Chain s a (x ∷ xs) b = Follows s a x × Chain s x xs b
+
+-- each is the node of a row
+abbrev pub AllRows : Net → List ℕ → Type 0
+AllRows s [] = Unit {0}
+AllRows s (x ∷ xs) = ((s.heads ≤ x) × (x < nodes s)) × AllRows s xs
+
+-- the rows of the list l, by their nodes
+pub record IsList (s : Net) (l : ℕ) (xs : List ℕ) : Type 0 where
+  pub made : l < s.heads
+  pub rows : AllRows s xs
+  pub chain : Chain s l xs l
+
+abbrev pub unlinked : ℕ → Net → Net
+unlinked r s = linked (prev_of s r) (next_of s r) s
+
+abbrev pub relinked : ℕ → Net → Net
+relinked r s = linked r (next_of s r) (linked (prev_of s r) r s)
+
+-- pushed behind the last of the list l, as a new node
+abbrev pub pushed : ℕ → Net → Net
+pushed l s = linked (nodes s) l (linked (prev_of s l) (nodes s) (grown s))
+
+-- the rows of the list `other` put behind the node a
+abbrev pub spliced : ℕ → ℕ → Net → Net
+spliced a other s =
+    linked other other (linked (prev_of s other) (next_of s a) (linked a (next_of s other) s))

@@ -1,0 +1,4 @@
+//! Rows that stand in lists, linked by index.
+#![tactic(auto)]
+
+mod links;
