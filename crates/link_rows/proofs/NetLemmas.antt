@@ -1,10 +1,10 @@
 -- What a link leaves of chains.
 use Rattle.std.specs.Prelude.{slice_index}
-use Rattle.std.proofs.Common.{◌≡◌, ◌≢◌, ℕ, ◌+◌, ◌<◌, ◌≤◌, List, [], ◌∷◌, ◌++◌, length, get_or, refl, ap, sym, subst, ◌∙◌, append_assoc, length-append, arith, rules, zero, suc}
+use Rattle.std.proofs.Common.{◌≡◌, ◌≢◌, ℕ, ◌+◌, ◌^◌, ◌<◌, ◌≤◌, List, [], ◌∷◌, ◌++◌, length, get_or, refl, ap, sym, subst, ◌∙◌, append_assoc, length-append, arith, rules, zero, suc}
 use Rattle.std.proofs.Math.ListN.{set}
 use Rattle.std.proofs.lemmas.List.{get_or-set_same, get_or-set_other, length-set, append-nil}
 use Rattle.std.proofs.lemmas.Grind.{get_or-set_at}
-use Rattle.link_rows.specs.Net.{Net, AllBelow, Chain, Follows, AllRows, IsList, IsNet, linked, unlinked, relinked, grown, pushed, spliced, next_of, prev_of, nodes}
+use Rattle.link_rows.specs.Net.{Net, AllBelow, Chain, Follows, AllRows, CanRelink, last_of, IsList, IsNet, linked, unlinked, relinked, alone, grown, numbers, pushed, next_of, prev_of, nodes}
 
 pub below-get : (n : ℕ) (xs : List ℕ) (i d : ℕ) → AllBelow n xs → i < length xs → get_or xs i d < n
 below-get n [] i d b h = absurd (omega arith)
@@ -134,6 +134,7 @@ pub net-linked : (s : Net) (a b : ℕ) → IsNet s → a < length s.next → b <
 net-linked s a b t h k = record {
   as_many = length-set s.prev b a ∙ (t.as_many ∙ sym (length-set s.next a b));
   heads = rw length-set t.heads;
+  few = t.few;
   next = rw length-set (below-set (length s.next) s.next a b t.next k);
   prev = rw length-set (below-set (length s.next) s.prev b a t.prev h);
 }
@@ -201,3 +202,127 @@ unlinked-other s l xs r (y ∷ ys) m zs i j n =
     other-kept s (prev_of s r) (next_of s r) m zs j
       (away s m zs (prev_of s r) (r ∷ y ∷ ys) l j.chain f j.rows p.1 j.made i.made n)
       (subst (λ v. Misses v (m ∷ zs)) (sym e) (away s m zs y ys l j.chain d.1.1 j.rows p.1.1.1 j.made i.made n))
+
+-- the lists of a row's neighbours: where p is followed by n both ways, r is put between them
+pub below-more : (n m : ℕ) (xs : List ℕ) → AllBelow n xs → n ≤ m → AllBelow m xs
+below-more n m [] b h = tt
+below-more n m (x ∷ xs) b h = (omega (arith, b.0), below-more n m xs b.1 h)
+
+pub below-push : (m : ℕ) (xs : List ℕ) (y : ℕ) → AllBelow m xs → y < m → AllBelow m (xs ++ y ∷ [])
+below-push m [] y b h = (h, tt)
+below-push m (x ∷ xs) y b h = (b.0, below-push m xs y b.1 h)
+
+pub numbers-length : (n : ℕ) → length (numbers n) ≡ n
+numbers-length zero = refl
+numbers-length (suc n) = omega (arith, length-append (numbers n) (n ∷ []), numbers-length n)
+
+pub numbers-below : (n m : ℕ) → n ≤ m → AllBelow m (numbers n)
+numbers-below zero m h = tt
+numbers-below (suc n) m h = below-push m (numbers n) n (numbers-below n m (omega arith)) (omega arith)
+
+pub net-alone : (n : ℕ) → n < 2 ^ 32 → IsNet (alone n)
+net-alone n h = record {
+  as_many = refl;
+  heads = omega (arith, numbers-length n);
+  few = h;
+  next = rw numbers-length (numbers-below n n (omega arith));
+  prev = rw numbers-length (numbers-below n n (omega arith));
+}
+
+pub net-grown : (s : Net) → IsNet s → IsNet (grown s)
+net-grown s t =
+    let e : length (s.next ++ length s.next ∷ []) ≡ length s.next + 1 = length-append s.next (length s.next ∷ []) in
+    let f : length (s.prev ++ length s.next ∷ []) ≡ length s.prev + 1 = length-append s.prev (length s.next ∷ []) in
+    record {
+      as_many = omega (arith, e, f, t.as_many);
+      heads = omega (arith, e, t.heads);
+      few = t.few;
+      next = rw e (below-push (length s.next + 1) s.next (length s.next) (below-more (length s.next) (length s.next + 1) s.next t.next (omega arith)) (omega arith));
+      prev = rw e (below-push (length s.next + 1) s.prev (length s.next) (below-more (length s.next) (length s.next + 1) s.prev t.prev (omega arith)) (omega arith));
+    }
+
+pub row-met : (s : Net) (xs : List ℕ) (y : ℕ) (i j : ℕ) → Chain s i xs j → next_of s (prev_of s y) ≢ y → Misses y xs
+row-met s [] y i j c n = tt
+row-met s (x ∷ xs) y i j c n =
+    ((λ (e : x ≡ y). n (subst (λ v. next_of s (prev_of s v) ≡ v) e (ap (λ v. next_of s v) c.0.1 ∙ c.0.0))), row-met s xs y x j c.1 n)
+
+
+pub last-next : (s : Net) (i : ℕ) (xs : List ℕ) (j : ℕ) → Chain s i xs j → Follows s (last_of i xs) j
+last-next s i [] j c = c
+last-next s i (x ∷ xs) j c = last-next s x xs j c.1
+
+-- A row that is put between its neighbours, which stand side by side.
+pub relinked-own : (s : Net) (r l : ℕ) (xs ys : List ℕ) → IsNet s → CanRelink s r → IsList s l (xs ++ ys) → last_of l xs ≡ prev_of s r → IsList (relinked r s) l (xs ++ r ∷ ys)
+relinked-own s r l xs [] t k i q =
+    let c : Chain s l xs l = rw append-nil at i.chain in
+    let m : AllRows s xs = rw append-nil at i.rows in
+    let f = last-next s l xs l c in
+    let e : next_of s r ≡ l = sym k.side_by_side ∙ (ap (λ v. next_of s v) (sym q) ∙ f.0) in
+    let x : Misses r xs = row-met s xs r l l c k.out in
+    let a : l ≢ r = λ (z : l ≡ r). omega (arith, k.row, i.made) in
+    let b : r ≢ l = λ z. a (sym z) in
+    let p = prev_of s r in
+    let bp : r < length s.prev = omega (arith, t.as_many, k.pushed) in
+    let bl : l < length (set s.prev r p) = rw length-set (omega (arith, t.as_many, t.heads, i.made)) in
+    let bn : r < length (set s.next p r) = rw length-set k.pushed in
+    let d = bend s p r l l xs c (f.1 ∙ q) (chain-unique s l xs l c m i.made) x (prev-below s r t k.pushed) bp in
+    let g = kept (linked p r s) r l l xs r d a x (heads-missed s l xs m i.made) b in
+    record {
+      made = i.made;
+      rows = rows-join (relinked r s) xs (r ∷ []) (rows-linked (linked p r s) r (next_of s r) xs (rows-linked s p r xs m))
+        (rows-linked (linked p r s) r (next_of s r) (r ∷ []) (rows-linked s p r (r ∷ []) ((k.row, k.pushed), tt)));
+      chain = subst (λ v. Chain (linked r v (linked p r s)) l (xs ++ r ∷ []) l) (sym e)
+        (join (linked r l (linked p r s)) l xs r [] l g (follows-linked (linked p r s) r l bn bl));
+    }
+relinked-own s r l xs (y ∷ ys) t k i q =
+    let w = split s l xs y ys l i.chain in
+    let m = rows-split s xs (y ∷ ys) i.rows in
+    let f = last-next s l xs y w.0 in
+    let e : next_of s r ≡ y = sym k.side_by_side ∙ (ap (λ v. next_of s v) (sym q) ∙ f.0) in
+    let u = chain-unique s l (xs ++ y ∷ ys) l i.chain i.rows i.made in
+    let x = misses-append r xs (y ∷ ys) (row-met s (xs ++ y ∷ ys) r l l i.chain k.out) in
+    let a : l ≢ r = λ (z : l ≡ r). omega (arith, k.row, i.made) in
+    let b : r ≢ y = λ z. x.1.0 (sym z) in
+    let p = prev_of s r in
+    let bp : r < length s.prev = omega (arith, t.as_many, k.pushed) in
+    let by : y < length (set s.prev r p) = rw length-set (omega (arith, t.as_many, m.1.0.1)) in
+    let bn : r < length (set s.next p r) = rw length-set k.pushed in
+    let v = unique-missed (l ∷ xs) y ys u in
+    let h : Chain s p (y ∷ ys) l = (subst (λ z. Follows s z y) q f, w.1) in
+    let o : Misses p (y ∷ ys) = apart s p (y ∷ ys) l y ys l w.1 h m.1.1 m.1 i.made i.made (λ _. omega arith) in
+    let d = bend s p r y l xs w.0 (f.1 ∙ q) (unique-front (l ∷ xs) (y ∷ ys) u) x.0 (prev-below s r t k.pushed) bp in
+    let g = kept (linked p r s) r y l xs r d a x.0 v.1 b in
+    let j = kept s p r y ys l w.1 o.0 o.1 x.1.1 a in
+    let n = kept (linked p r s) r y y ys l j x.1.0 x.1.1 (tail-missed s y ys l w.1 m.1.1 i.made) v.0 in
+    record {
+      made = i.made;
+      rows = rows-linked (linked p r s) r (next_of s r) (xs ++ r ∷ y ∷ ys) (rows-linked s p r (xs ++ r ∷ y ∷ ys)
+        (rows-join s xs (r ∷ y ∷ ys) m.0 ((k.row, k.pushed), m.1)));
+      chain = subst (λ z. Chain (linked r z (linked p r s)) l (xs ++ r ∷ y ∷ ys) l) (sym e)
+        (join (linked r y (linked p r s)) l xs r (y ∷ ys) l g (follows-linked (linked p r s) r y bn by, n));
+    }
+
+-- All lists but one stay.
+pub relinked-other : (s : Net) (r l : ℕ) (xs ys : List ℕ) (m : ℕ) (zs : List ℕ) → CanRelink s r → IsList s l (xs ++ ys) → last_of l xs ≡ prev_of s r → IsList s m zs → m ≢ l → IsList (relinked r s) m zs
+relinked-other s r l xs [] m zs k i q j n =
+    let c : Chain s l xs l = rw append-nil at i.chain in
+    let v : AllRows s xs = rw append-nil at i.rows in
+    let f = last-next s l xs l c in
+    let e : next_of s r ≡ l = sym k.side_by_side ∙ (ap (λ v. next_of s v) (sym q) ∙ f.0) in
+    let x : Misses r (m ∷ zs) = ((λ (z : m ≡ r). omega (arith, k.row, j.made)), row-met s zs r m m j.chain k.out) in
+    let h : Chain s (prev_of s r) [] l = subst (λ z. Follows s z l) q f in
+    let w = away s m zs (prev_of s r) [] l j.chain h j.rows tt j.made i.made n in
+    let g = other-kept s (prev_of s r) r m zs j w x in
+    other-kept (linked (prev_of s r) r s) r (next_of s r) m zs g x
+      (subst (λ z. Misses z (m ∷ zs)) (sym e) (away s m zs l xs l j.chain c j.rows v j.made i.made n))
+relinked-other s r l xs (y ∷ ys) m zs k i q j n =
+    let d = split s l xs y ys l i.chain in
+    let v = rows-split s xs (y ∷ ys) i.rows in
+    let f = last-next s l xs y d.0 in
+    let e : next_of s r ≡ y = sym k.side_by_side ∙ (ap (λ v. next_of s v) (sym q) ∙ f.0) in
+    let x : Misses r (m ∷ zs) = ((λ (z : m ≡ r). omega (arith, k.row, j.made)), row-met s zs r m m j.chain k.out) in
+    let h : Chain s (prev_of s r) (y ∷ ys) l = (subst (λ z. Follows s z y) q f, d.1) in
+    let w = away s m zs (prev_of s r) (y ∷ ys) l j.chain h j.rows v.1 j.made i.made n in
+    let g = other-kept s (prev_of s r) r m zs j w x in
+    other-kept (linked (prev_of s r) r s) r (next_of s r) m zs g x
+      (subst (λ z. Misses z (m ∷ zs)) (sym e) (away s m zs y ys l j.chain d.1 j.rows v.1.1 j.made i.made n))

@@ -1,12 +1,24 @@
 -- Nodes that are linked both ways by their numbers. The first nodes are heads, one for each list, and the others are rows.
 -- A list's head, its rows in order and its head again follow each other both ways.
-use Rattle.std.specs.Prelude.{ℕ, ◌≡◌, ◌+◌, ◌<◌, ◌≤◌, List, [], ◌∷◌, ◌++◌, length, slice_index, set, refl}
+use Rattle.std.specs.Prelude.{ℕ, ◌≡◌, ◌≢◌, ◌+◌, ◌<◌, ◌≤◌, ◌^◌, zero, suc, List, [], ◌∷◌, ◌++◌, length, slice_index, set, refl}
 use Rattle.std.specs.Coded.{Coded, code_by, coded×, coded_ℕ, coded_list}
 
 pub record Net : Type 0 where
   pub heads : ℕ
   pub next : List ℕ
   pub prev : List ℕ
+
+abbrev pub net : ℕ → List ℕ → List ℕ → Net
+net heads next prev = record { heads = heads; next = next; prev = prev }
+
+-- the numbers below n
+abbrev pub numbers : ℕ → List ℕ
+numbers zero = []
+numbers (suc n) = numbers n ++ n ∷ []
+
+-- so many heads, each linked to itself
+abbrev pub alone : ℕ → Net
+alone heads = net heads (numbers heads) (numbers heads)
 
 abbrev pub net_code : Coded Net
 net_code =
@@ -40,6 +52,7 @@ AllBelow n (x ∷ xs) = (x < n) × AllBelow n xs
 pub record IsNet (s : Net) : Type 0 where
   pub as_many : length s.prev ≡ length s.next
   pub heads : s.heads ≤ length s.next
+  pub few : s.heads < 2 ^ 32
   pub next : AllBelow (length s.next) s.next
   pub prev : AllBelow (length s.next) s.prev
 
@@ -73,7 +86,14 @@ relinked r s = linked r (next_of s r) (linked (prev_of s r) r s)
 abbrev pub pushed : ℕ → Net → Net
 pushed l s = linked (nodes s) l (linked (prev_of s l) (nodes s) (grown s))
 
--- the rows of the list `other` put behind the node a
-abbrev pub spliced : ℕ → ℕ → Net → Net
-spliced a other s =
-    linked other other (linked (prev_of s other) (next_of s a) (linked a (next_of s other) s))
+-- the last of xs, or i where there is none
+abbrev pub last_of : ℕ → List ℕ → ℕ
+last_of i [] = i
+last_of i (x ∷ xs) = last_of x xs
+
+-- the row r is in no list, and the nodes between which it stood follow each other
+pub record CanRelink (s : Net) (r : ℕ) : Type 0 where
+  pub row : s.heads ≤ r
+  pub pushed : r < nodes s
+  pub out : next_of s (prev_of s r) ≢ r
+  pub side_by_side : next_of s (prev_of s r) ≡ next_of s r

@@ -1,8 +1,9 @@
 use Rattle.std.proofs.Common.{rules}
+use Rattle.link_rows.specs.Net.{net, nodes}
 use Rattle.link_rows.proofs.NetLemmas.{net-linked}
 use Rattle.link_rows.proofs.links.Links.link.Goals as goal
 
 pub invariant_of-self : goal.invariant_of-self
 invariant_of-self c =
-    net-linked (record { heads = c.self.inside.heads; next = c.self.inside.next.items; prev = c.self.inside.prev.items }) c.args.a c.args.b c.self.invariant
+    net-linked (net c.self.inside.heads c.self.inside.next.items c.self.inside.prev.items) c.args.a c.args.b c.self.invariant
     (rw (← c.self.view_is) at c.requires.a_made) (rw (← c.self.view_is) at c.requires.b_made)
