@@ -2,9 +2,9 @@
 use Rattle.std.specs.Prelude.{slice_index}
 use Rattle.std.proofs.Common.{◌≡◌, ◌≢◌, ℕ, ◌+◌, ◌^◌, ◌<◌, ◌≤◌, List, [], ◌∷◌, ◌++◌, length, get_or, refl, ap, sym, subst, ◌∙◌, append_assoc, length-append, arith, rules, zero, suc}
 use Rattle.std.proofs.Math.ListN.{set}
-use Rattle.std.proofs.lemmas.List.{get_or-set_same, get_or-set_other, length-set, append-nil}
+use Rattle.std.proofs.lemmas.List.{get_or-set_same, get_or-set_other, get_or_append_left, length-set, append-nil}
 use Rattle.std.proofs.lemmas.Grind.{get_or-set_at}
-use Rattle.link_rows.specs.Net.{Net, AllBelow, Chain, Follows, AllRows, CanRelink, last_of, IsList, IsNet, linked, unlinked, relinked, alone, grown, numbers, pushed, next_of, prev_of, nodes}
+use Rattle.link_rows.specs.Net.{Net, AllBelow, Chain, Follows, AllRows, CanRelink, last_of, IsList, IsNet, Unlinks, Relinks, Pushes, linked, unlinked, relinked, alone, grown, numbers, pushed, next_of, prev_of, nodes}
 
 pub below-get : (n : ℕ) (xs : List ℕ) (i d : ℕ) → AllBelow n xs → i < length xs → get_or xs i d < n
 below-get n [] i d b h = absurd (omega arith)
@@ -326,3 +326,61 @@ relinked-other s r l xs (y ∷ ys) m zs k i q j n =
     let g = other-kept s (prev_of s r) r m zs j w x in
     other-kept (linked (prev_of s r) r s) r (next_of s r) m zs g x
       (subst (λ z. Misses z (m ∷ zs)) (sym e) (away s m zs y ys l j.chain d.1 j.rows v.1.1 j.made i.made n))
+
+pub chain-grown : (s : Net) (i : ℕ) (xs : List ℕ) (j : ℕ) → IsNet s → Chain s i xs j → AllRows s xs → i < length s.next → j < length s.next → Chain (grown s) i xs j
+chain-grown s i [] j t c m h k =
+    let p : j < length s.prev = omega (arith, t.as_many) in
+    (get_or_append_left s.next (length s.next ∷ []) 0 i h ∙ c.0, get_or_append_left s.prev (length s.next ∷ []) 0 j p ∙ c.1)
+chain-grown s i (x ∷ xs) j t c m h k =
+    let p : x < length s.prev = omega (arith, t.as_many, m.0.1) in
+    ((get_or_append_left s.next (length s.next ∷ []) 0 i h ∙ c.0.0, get_or_append_left s.prev (length s.next ∷ []) 0 x p ∙ c.0.1), chain-grown s x xs j t c.1 m.1 m.0.1 k)
+
+pub rows-grown : (s : Net) (xs : List ℕ) → AllRows s xs → AllRows (grown s) xs
+rows-grown s [] m = tt
+rows-grown s (x ∷ xs) m = ((m.0.0, omega (arith, m.0.1, length-append s.next (length s.next ∷ []))), rows-grown s xs m.1)
+
+pub new-missed : (s : Net) (xs : List ℕ) → AllRows s xs → Misses (length s.next) xs
+new-missed s [] m = tt
+new-missed s (x ∷ xs) m = ((λ (e : x ≡ length s.next). omega (arith, m.0.1)), new-missed s xs m.1)
+
+pub list-grown : (s : Net) (m : ℕ) (zs : List ℕ) → IsNet s → IsList s m zs → IsList (grown s) m zs
+list-grown s m zs t i =
+    let h : m < length s.next = omega (arith, i.made, t.heads) in
+    record { made = i.made; rows = rows-grown s zs i.rows; chain = chain-grown s m zs m t i.chain i.rows h h }
+
+pub pushes : (s : Net) (l : ℕ) → IsNet s → Pushes s l (pushed l s)
+pushes s l t = λ (xs : List ℕ) (i : IsList s l xs).
+    let k = length s.next in
+    let p = prev_of s l in
+    let h : l < length s.next = omega (arith, i.made, t.heads) in
+    let hp : l < length s.prev = omega (arith, t.as_many, h) in
+    let bp : p < length s.next = prev-below s l t h in
+    let g = list-grown s l xs t i in
+    let e : length (s.next ++ k ∷ []) ≡ length s.next + 1 = length-append s.next (k ∷ []) in
+    let f : length (s.prev ++ k ∷ []) ≡ length s.prev + 1 = length-append s.prev (k ∷ []) in
+    let q : prev_of (grown s) l ≡ p = get_or_append_left s.prev (k ∷ []) 0 l hp in
+    let a1 : p < length (s.next ++ k ∷ []) = omega (arith, e, bp) in
+    let a2 : k < length (s.prev ++ k ∷ []) = omega (arith, f, t.as_many) in
+    let a3 : k < length (set (s.next ++ k ∷ []) p k) = rw length-set (omega (arith, e)) in
+    let a4 : l < length (set (s.prev ++ k ∷ []) k p) = rw length-set (omega (arith, f, hp)) in
+    let n1 : l ≢ k = λ (z : l ≡ k). omega (arith, h) in
+    let n2 : k ≢ l = λ z. n1 (sym z) in
+    let c1 = bend (grown s) p k l l xs g.chain q (chain-unique s l xs l i.chain i.rows i.made) (new-missed s xs i.rows) a1 a2 in
+    let c2 = kept (linked p k (grown s)) k l l xs k c1 n1 (new-missed s xs i.rows) (heads-missed s l xs i.rows i.made) n2 in
+    let own : IsList (pushed l s) l (xs ++ k ∷ []) = record {
+      made = i.made;
+      rows = rows-linked (linked p k (grown s)) k l (xs ++ k ∷ []) (rows-linked (grown s) p k (xs ++ k ∷ [])
+        (rows-join (grown s) xs (k ∷ []) g.rows ((t.heads, omega (arith, e)), tt)));
+      chain = join (pushed l s) l xs k [] l c2 (follows-linked (linked p k (grown s)) k l a3 a4);
+    } in
+    (own, λ (m : ℕ) (zs : List ℕ) (j : IsList s m zs) (n : m ≢ l).
+      let x : Misses k (m ∷ zs) = ((λ (z : m ≡ k). omega (arith, j.made, t.heads)), new-missed s zs j.rows) in
+      other-kept (linked p k (grown s)) k l m zs
+        (other-kept (grown s) p k m zs (list-grown s m zs t j) (away s m zs p [] l j.chain (last-follows s l xs l i.chain) j.rows tt j.made i.made n) x)
+        x (n, heads-missed s l zs j.rows i.made))
+
+pub unlinks : (s : Net) (r : ℕ) → IsNet s → r < length s.next → Unlinks s r (unlinked r s)
+unlinks s r t h = λ l xs ys i. (unlinked-own s l xs r ys t h i, λ m zs j n. unlinked-other s l xs r ys m zs i j n)
+
+pub relinks : (s : Net) (r : ℕ) → IsNet s → CanRelink s r → Relinks s r (relinked r s)
+relinks s r t k = λ l xs ys i q. (relinked-own s r l xs ys t k i q, λ m zs j n. relinked-other s r l xs ys m zs k i q j n)

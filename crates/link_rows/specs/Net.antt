@@ -97,3 +97,21 @@ pub record CanRelink (s : Net) (r : ℕ) : Type 0 where
   pub pushed : r < nodes s
   pub out : next_of s (prev_of s r) ≢ r
   pub side_by_side : next_of s (prev_of s r) ≡ next_of s r
+
+-- From s to t the row r leaves its list, and the others stay.
+abbrev pub Unlinks : Net → ℕ → Net → Type 0
+Unlinks s r t =
+    (l : ℕ) (xs ys : List ℕ) → IsList s l (xs ++ r ∷ ys)
+    → IsList t l (xs ++ ys) × ((m : ℕ) (zs : List ℕ) → IsList s m zs → m ≢ l → IsList t m zs)
+
+-- From s to t the row r comes behind the node that it stood behind, and the other lists stay.
+abbrev pub Relinks : Net → ℕ → Net → Type 0
+Relinks s r t =
+    (l : ℕ) (xs ys : List ℕ) → IsList s l (xs ++ ys) → last_of l xs ≡ prev_of s r
+    → IsList t l (xs ++ r ∷ ys) × ((m : ℕ) (zs : List ℕ) → IsList s m zs → m ≢ l → IsList t m zs)
+
+-- From s to t the list l gets a new row at its end, and the others stay.
+abbrev pub Pushes : Net → ℕ → Net → Type 0
+Pushes s l t =
+    (xs : List ℕ) → IsList s l xs
+    → IsList t l (xs ++ nodes s ∷ []) × ((m : ℕ) (zs : List ℕ) → IsList s m zs → m ≢ l → IsList t m zs)

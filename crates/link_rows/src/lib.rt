@@ -2,3 +2,6 @@
 #![tactic(auto)]
 
 mod links;
+mod rows;
+
+pub use rows::{ListId, RowId, Rows};

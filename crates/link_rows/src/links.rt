@@ -1,6 +1,6 @@
 // The links of the nodes.
 ghost use Rattle.std.specs.Prelude.{◌≡◌, ◌+◌, ◌^◌, ◌<◌, ◌≤◌, IfOk, OnOk, OnErr};
-ghost use Rattle.link_rows.specs.Net.{alone, grown, linked, next_of, nodes, prev_of, pushed, relinked, unlinked};
+ghost use Rattle.link_rows.specs.Net.{alone, grown, linked, next_of, nodes, prev_of, pushed, relinked, unlinked, CanRelink, Pushes, Relinks, Unlinks};
 
 use dired_text::Memory;
 use std::alloc::Global;
@@ -113,11 +113,13 @@ impl Links {
 
     // Adds a node at the end of a list, in the room that there is.
     pub fn push_back(&mut self, list: usize)
-        requires made { list < self.old.0.heads }
+        requires made { list < nodes self.old.0 }
         requires room { 0 < self.old.1 }
         ensures net { self.new.0 ≡ pushed list self.old.0 }
+        ensures lists { Pushes self.old.0 list self.new.0 }
         ensures room { self.old.1 ≤ self.new.1 + 1 }
     {
+        let _heads = self.heads;
         let node = self.len();
         let last = self.prev(list);
         self.grow();
@@ -128,18 +130,22 @@ impl Links {
     pub fn unlink(&mut self, row: usize)
         requires { row < nodes self.old.0 }
         ensures net { self.new.0 ≡ unlinked row self.old.0 }
+        ensures lists { Unlinks self.old.0 row self.new.0 }
         ensures room { self.new.1 ≡ self.old.1 }
     {
+        let _heads = self.heads;
         let before = self.prev(row);
         let behind = self.next(row);
         self.link(before, behind);
     }
 
     pub fn relink(&mut self, row: usize)
-        requires { row < nodes self.old.0 }
+        requires { CanRelink self.old.0 row }
         ensures net { self.new.0 ≡ relinked row self.old.0 }
+        ensures lists { Relinks self.old.0 row self.new.0 }
         ensures room { self.new.1 ≡ self.old.1 }
     {
+        let _heads = self.heads;
         let before = self.prev(row);
         let behind = self.next(row);
         self.link(before, row);
