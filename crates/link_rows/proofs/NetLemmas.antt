@@ -4,6 +4,10 @@ use Rattle.std.proofs.Common.{◌≡◌, ◌≢◌, ℕ, ◌+◌, ◌^◌, ◌<�
 use Rattle.std.proofs.Math.ListN.{set}
 use Rattle.std.proofs.lemmas.List.{get_or-set_same, get_or-set_other, get_or_append_left, length-set, append-nil}
 use Rattle.std.proofs.lemmas.Grind.{get_or-set_at}
+use Rattle.std.proofs.Common.{None, Some, ◌-◌}
+use Rattle.std.proofs.lemmas.Bool.Decides.{nat_tests}
+use Rattle.std.proofs.Math.Seq.{get_or-append_seam}
+use Rattle.link_rows.specs.Tables.{row_of, first_row}
 use Rattle.link_rows.specs.Net.{Net, AllBelow, Chain, Follows, AllRows, CanRelink, last_of, IsList, IsNet, Unlinks, Relinks, Pushes, linked, unlinked, relinked, alone, grown, numbers, pushed, next_of, prev_of, nodes}
 
 pub below-get : (n : ℕ) (xs : List ℕ) (i d : ℕ) → AllBelow n xs → i < length xs → get_or xs i d < n
@@ -384,3 +388,35 @@ unlinks s r t h = λ l xs ys i. (unlinked-own s l xs r ys t h i, λ m zs j n. un
 
 pub relinks : (s : Net) (r : ℕ) → IsNet s → CanRelink s r → Relinks s r (relinked r s)
 relinks s r t k = λ l xs ys i q. (relinked-own s r l xs ys t k i q, λ m zs j n. relinked-other s r l xs ys m zs k i q j n)
+
+numbers-get-more : (n i : ℕ) → i < suc n → (i < n → get_or (numbers n) i 0 ≡ i) → get_or (numbers n ++ n ∷ []) i 0 ≡ i
+numbers-get-more n i h before =
+    let l : length (numbers n) ≡ n = numbers-length n in
+    let last : get_or (numbers n ++ n ∷ []) (length (numbers n)) 0 ≡ n = get_or-append_seam (numbers n) n [] 0 in
+    grind (arith, get_or_append_left (numbers n) (n ∷ []) 0 i, before, l, last)
+
+pub numbers-get : (n i : ℕ) → i < n → get_or (numbers n) i 0 ≡ i
+numbers-get zero i h = absurd (omega arith)
+numbers-get (suc n) i h = numbers-get-more n i h (numbers-get n i)
+
+pub alone-list : (n l : ℕ) → l < n → IsList (alone n) l []
+alone-list n l h = record { made = h; rows = tt; chain = (numbers-get n l h, numbers-get n l h) }
+
+pub row-of-head : (s : Net) (x : ℕ) → x < s.heads → row_of s x ≡ None
+row-of-head s x h = grind (arith, nat_tests)
+
+pub row-of-row : (s : Net) (x : ℕ) → s.heads ≤ x → row_of s x ≡ Some (x - s.heads)
+row-of-row s x h = grind (arith, nat_tests)
+
+pub next-row : (s : Net) (l : ℕ) (xs : List ℕ) (r : ℕ) (ys : List ℕ) → IsList s l (xs ++ r ∷ ys) → row_of s (next_of s r) ≡ first_row s ys
+next-row s l xs r [] i =
+    let d = split s l xs r [] l i.chain in
+    let e : next_of s r ≡ l = d.1.0 in
+    let h : l < s.heads = i.made in
+    row-of-head s (next_of s r) (rw e h)
+next-row s l xs r (y ∷ ys) i =
+    let d = split s l xs r (y ∷ ys) l i.chain in
+    let e : next_of s r ≡ y = d.1.0.0 in
+    let m = rows-split s xs (r ∷ y ∷ ys) i.rows in
+    let h : s.heads ≤ y = m.1.1.0.0 in
+    subst (λ v. row_of s v ≡ Some (y - s.heads)) (sym e) (row-of-row s y h)

@@ -115,3 +115,13 @@ abbrev pub Pushes : Net → ℕ → Net → Type 0
 Pushes s l t =
     (xs : List ℕ) → IsList s l xs
     → IsList t l (xs ++ nodes s ∷ []) × ((m : ℕ) (zs : List ℕ) → IsList s m zs → m ≢ l → IsList t m zs)
+
+-- From s to t the rows of the list o come behind the node a of the list l, and the others stay.
+abbrev pub Splices : Net → ℕ → ℕ → ℕ → Net → Type 0
+Splices s l a o t =
+    (xs ys bs : List ℕ) → IsList s l (xs ++ ys) → last_of l xs ≡ a → IsList s o bs → l ≢ o
+    → IsList t l (xs ++ (bs ++ ys)) × (IsList t o [] × ((m : ℕ) (zs : List ℕ) → IsList s m zs → m ≢ l → m ≢ o → IsList t m zs))
+
+-- the rows from b to the last before o, put behind a
+abbrev pub spliced : ℕ → ℕ → Net → Net
+spliced a o s = linked o o (linked (prev_of s o) (next_of s a) (linked a (next_of s o) s))

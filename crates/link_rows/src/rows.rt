@@ -40,6 +40,9 @@ impl<T> Model for Rows<T> {
 }
 
 impl<T> Rows<T> {
+    ghost use Rattle.std.specs.Borrow.{sem};
+    ghost use Rattle.link_rows.specs.RowLends.{lends_value};
+
     /// So many lists, all empty.
     ///
     /// # Errors
@@ -103,6 +106,15 @@ impl<T> Rows<T> {
         ensures { result.now ≡ slice_index_or self.now.values row.0 result.now }
     {
         &self.values[row.0 as usize]
+    }
+
+    /// The value of a row, to be changed.
+    pub fn get_mut(&mut self, row: RowId) -> &mut T
+        requires { row.0 < length self.old.values }
+        ensures* writes_back { sem 𝓛 (lends_value T.row self.entry row.0 result) }
+        ensures value { result.now ≡ slice_index_or self.old.values row.0 result.now }
+    {
+        &mut self.values[row.0 as usize]
     }
 
     // The row of a node, or None at a head.
