@@ -1,2 +1,3 @@
 pub mod NetLemmas
 pub mod SpliceLemmas
+pub mod CutLemmas

@@ -90,3 +90,50 @@ splices-some s l a o b xs (y ∷ ys) bs t i q j ne ha =
       chain = subst (λ z. Chain (linked o o (linked k z (linked a (next_of s o) s))) l (xs ++ (b ∷ (bs ++ y ∷ ys))) l) (sym f.0)
         (subst (λ z. Chain (linked o o (linked k y (linked a z s))) l (xs ++ (b ∷ (bs ++ y ∷ ys))) l) (sym e) x);
     }
+
+-- Neither a node nor the one that follows it is in another list.
+pub next-missed : (s : Net) (l a : ℕ) (xs ys : List ℕ) (m : ℕ) (zs : List ℕ) → IsList s l (xs ++ ys) → last_of l xs ≡ a → IsList s m zs → m ≢ l → Misses a (m ∷ zs) × Misses (next_of s a) (m ∷ zs)
+next-missed s l a xs [] m zs i q k n =
+    let c : Chain s l xs l = rw append-nil at i.chain in
+    let v : AllRows s xs = rw append-nil at i.rows in
+    let f : Follows s a l = subst (λ z. Follows s z l) q (last-next s l xs l c) in
+    (away s m zs a [] l k.chain f k.rows tt k.made i.made n,
+      subst (λ z. Misses z (m ∷ zs)) (sym f.0) (away s m zs l xs l k.chain c k.rows v k.made i.made n))
+next-missed s l a xs (y ∷ ys) m zs i q k n =
+    let d = split s l xs y ys l i.chain in
+    let v = rows-split s xs (y ∷ ys) i.rows in
+    let f : Follows s a y = subst (λ z. Follows s z y) q (last-next s l xs y d.0) in
+    let g : Chain s a (y ∷ ys) l = (f, d.1) in
+    (away s m zs a (y ∷ ys) l k.chain g k.rows v.1 k.made i.made n,
+      subst (λ z. Misses z (m ∷ zs)) (sym f.0) (away s m zs y ys l k.chain d.1 k.rows v.1.1 k.made i.made n))
+
+pub splices-others : (s : Net) (l a o b : ℕ) (xs ys bs : List ℕ) (m : ℕ) (zs : List ℕ) → IsList s l (xs ++ ys) → last_of l xs ≡ a → IsList s o (b ∷ bs) → IsList s m zs → m ≢ l → m ≢ o → IsList (spliced a o s) m zs
+splices-others s l a o b xs ys bs m zs i q j k n1 n2 =
+    let nb = next-missed s l a xs ys m zs i q k n1 in
+    let x = away s m zs b bs o k.chain j.chain.1 k.rows j.rows.1 k.made j.made n2 in
+    let x2 = subst (λ v. Misses v (m ∷ zs)) (sym j.chain.0.0) x in
+    let w = away s m zs (prev_of s o) [] o k.chain (last-follows s o (b ∷ bs) o j.chain) k.rows tt k.made j.made n2 in
+    let z : Misses o (m ∷ zs) = (n2, heads-missed s o zs k.rows j.made) in
+    let s1 = linked a (next_of s o) s in
+    other-kept (linked (prev_of s o) (next_of s a) s1) o o m zs
+      (other-kept s1 (prev_of s o) (next_of s a) m zs (other-kept s a (next_of s o) m zs k nb.0 x2) w nb.1) z z
+
+pub splices-none-at : (s : Net) (o l : ℕ) (xs ys bs : List ℕ) → next_of s o ≡ o → IsList s l (xs ++ ys) → IsList s o bs → IsList s l (xs ++ (bs ++ ys)) × IsList s o []
+splices-none-at s o l xs ys [] e i j = (i, j)
+splices-none-at s o l xs ys (b ∷ bs) e i j = let z : o ≡ b = sym e ∙ j.chain.0.0 in absurd (omega (arith, j.made, j.rows.0.0))
+
+pub splices-none : (s : Net) (a o : ℕ) → next_of s o ≡ o → Splices s a o s
+splices-none s a o e = λ l xs ys bs i q j ne.
+    let r = splices-none-at s o l xs ys bs e i j in
+    (r.0, (r.1, λ m zs k n1 n2. k))
+
+pub splices-at : (s : Net) (a o l : ℕ) (xs ys bs : List ℕ) → IsNet s → a < length s.next → next_of s o ≢ o → IsList s l (xs ++ ys) → last_of l xs ≡ a → IsList s o bs → l ≢ o
+    → IsList (spliced a o s) l (xs ++ (bs ++ ys)) × (IsList (spliced a o s) o [] × ((m : ℕ) (zs : List ℕ) → IsList s m zs → m ≢ l → m ≢ o → IsList (spliced a o s) m zs))
+splices-at s a o l xs ys [] t h e i q j ne = absurd (e j.chain.0)
+splices-at s a o l xs ys (b ∷ bs) t h e i q j ne =
+    (splices-some s l a o b xs ys bs t i q j ne h,
+      (spliced-o s a (next_of s o) (prev_of s o) (next_of s a) o t j.made,
+        λ m zs k n1 n2. splices-others s l a o b xs ys bs m zs i q j k n1 n2))
+
+pub splices : (s : Net) (a o : ℕ) → IsNet s → a < length s.next → next_of s o ≢ o → Splices s a o (spliced a o s)
+splices s a o t h e = λ l xs ys bs i q j ne. splices-at s a o l xs ys bs t h e i q j ne

@@ -116,12 +116,21 @@ Pushes s l t =
     (xs : List ℕ) → IsList s l xs
     → IsList t l (xs ++ nodes s ∷ []) × ((m : ℕ) (zs : List ℕ) → IsList s m zs → m ≢ l → IsList t m zs)
 
--- From s to t the rows of the list o come behind the node a of the list l, and the others stay.
-abbrev pub Splices : Net → ℕ → ℕ → ℕ → Net → Type 0
-Splices s l a o t =
-    (xs ys bs : List ℕ) → IsList s l (xs ++ ys) → last_of l xs ≡ a → IsList s o bs → l ≢ o
+-- From s to t the rows of the list o come behind the node a of another list, and the others stay.
+abbrev pub Splices : Net → ℕ → ℕ → Net → Type 0
+Splices s a o t =
+    (l : ℕ) (xs ys bs : List ℕ) → IsList s l (xs ++ ys) → last_of l xs ≡ a → IsList s o bs → l ≢ o
     → IsList t l (xs ++ (bs ++ ys)) × (IsList t o [] × ((m : ℕ) (zs : List ℕ) → IsList s m zs → m ≢ l → m ≢ o → IsList t m zs))
 
--- the rows from b to the last before o, put behind a
+-- the rows from the first to the last of the list o, put behind a
 abbrev pub spliced : ℕ → ℕ → Net → Net
 spliced a o s = linked o o (linked (prev_of s o) (next_of s a) (linked a (next_of s o) s))
+
+-- From s to t the rows from f to e leave their list and are all of the list o, which was empty, and the others stay.
+abbrev pub Cuts : Net → ℕ → ℕ → ℕ → Net → Type 0
+Cuts s f e o t =
+    (l : ℕ) (xs rs ys : List ℕ) → IsList s l (xs ++ ((f ∷ rs) ++ ys)) → last_of f rs ≡ e → IsList s o [] → l ≢ o
+    → IsList t l (xs ++ ys) × (IsList t o (f ∷ rs) × ((m : ℕ) (zs : List ℕ) → IsList s m zs → m ≢ l → m ≢ o → IsList t m zs))
+
+abbrev pub cut_out : ℕ → ℕ → ℕ → Net → Net
+cut_out f e o s = linked o f (linked (prev_of s f) (next_of s e) (linked e o s))
