@@ -26,3 +26,8 @@ first_row s (x ∷ xs) = Some (x - s.heads)
 -- the row of a node, or None at a head
 abbrev pub row_of : Net → ℕ → Option ℕ
 row_of s x = if nat_lt x s.heads then None else Some (x - s.heads)
+
+-- the node of this row, or the head of the list
+abbrev pub place_of : Net → ℕ → Option ℕ → ℕ
+place_of s l None = l
+place_of s l (Some row) = node s row

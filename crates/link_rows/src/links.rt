@@ -1,6 +1,6 @@
 // The links of the nodes.
 ghost use Rattle.std.specs.Prelude.{◌≡◌, ◌+◌, ◌^◌, ◌<◌, ◌≤◌, IfOk, OnOk, OnErr};
-ghost use Rattle.link_rows.specs.Net.{alone, grown, linked, next_of, nodes, prev_of, pushed, relinked, unlinked, CanRelink, Pushes, Relinks, Unlinks};
+ghost use Rattle.link_rows.specs.Net.{alone, cut_out, grown, linked, next_of, nodes, prev_of, pushed, relinked, unlinked, CanRelink, Cuts, Pushes, Relinks, Splices, Unlinks};
 
 use dired_text::Memory;
 use std::alloc::Global;
@@ -150,5 +150,42 @@ impl Links {
         let behind = self.next(row);
         self.link(before, row);
         self.link(row, behind);
+    }
+
+    // Puts the rows of a list behind a node of another list.
+    pub fn splice(&mut self, after: usize, other: usize)
+        requires after { after < nodes self.old.0 }
+        requires other { other < nodes self.old.0 }
+        ensures lists { Splices self.old.0 after other self.new.0 }
+        ensures heads { self.new.0.heads ≡ self.old.0.heads }
+        ensures nodes { nodes self.new.0 ≡ nodes self.old.0 }
+        ensures room { self.new.1 ≡ self.old.1 }
+    {
+        let _heads = self.heads;
+        let first = self.next(other);
+        if first != other {
+            let behind = self.next(after);
+            let last = self.prev(other);
+            self.link(after, first);
+            self.link(last, behind);
+            self.link(other, other);
+        }
+    }
+
+    // Takes the rows from the first to the last out of their list and puts them into an empty one.
+    pub fn cut(&mut self, first: usize, last: usize, other: usize)
+        requires first { first < nodes self.old.0 }
+        requires last { last < nodes self.old.0 }
+        requires other { other < nodes self.old.0 }
+        ensures net { self.new.0 ≡ cut_out first last other self.old.0 }
+        ensures lists { Cuts self.old.0 first last other self.new.0 }
+        ensures room { self.new.1 ≡ self.old.1 }
+    {
+        let _heads = self.heads;
+        let before = self.prev(first);
+        let behind = self.next(last);
+        self.link(last, other);
+        self.link(before, behind);
+        self.link(other, first);
     }
 }

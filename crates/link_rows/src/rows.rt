@@ -1,8 +1,8 @@
 // Rows with values, and several lists over them.
-ghost use Rattle.std.specs.Prelude.{◌≡◌, ◌≢◌, ◌+◌, ◌^◌, ◌<◌, ◌≤◌, ◌++◌, ◌∷◌, [], ℕ, List, IfOk, IfErr, IsOk, OnOk, OnErr, length, is_ok, if◌then◌else◌, slice_index_or};
+ghost use Rattle.std.specs.Prelude.{◌≡◌, ◌≢◌, ◌+◌, ◌^◌, ◌<◌, ◌≤◌, ◌++◌, ◌∷◌, [], ℕ, List, IfOk, IfErr, IfSome, IsOk, OnOk, OnErr, length, is_ok, if◌then◌else◌, slice_index_or};
 ghost use Rattle.std.specs.Option.{option_map};
-ghost use Rattle.link_rows.specs.Net.{IsList, Pushes, Relinks, Unlinks, CanRelink, nodes};
-ghost use Rattle.link_rows.specs.Tables.{first_row, node, row_of};
+ghost use Rattle.link_rows.specs.Net.{Cuts, IsList, Pushes, Relinks, Splices, Unlinks, CanRelink, nodes};
+ghost use Rattle.link_rows.specs.Tables.{first_row, node, place_of, row_of};
 
 use crate::links::Links;
 use dired_text::Memory;
@@ -98,6 +98,43 @@ impl<T> Rows<T> {
     {
         let node = self.links.heads() + row.0 as usize;
         self.links.relink(node);
+    }
+
+    /// Puts the rows of the list `other`, in their order, behind this row of `list`, or in front of all its rows. `other`,
+    /// which is another list, is then empty.
+    pub fn splice(&mut self, list: ListId, after: Option<RowId>, other: ListId)
+        requires made { list.0 < self.old.net.heads }
+        requires other_made { other.0 < self.old.net.heads }
+        requires pushed { IfSome after (λ r. r.0 < length self.old.values) }
+        ensures lists { Splices self.old.net (place_of self.old.net list.0 (option_map (λ r. r.0) after)) other.0 self.new.net }
+        ensures values { self.new.values ≡ self.old.values }
+        ensures heads { self.new.net.heads ≡ self.old.net.heads }
+        ensures spare { self.new.spare ≡ self.old.spare }
+    {
+        let _count = self.values.len();
+        let place = match after {
+            None => list.0 as usize,
+            Some(row) => self.links.heads() + row.0 as usize,
+        };
+        self.links.splice(place, other.0 as usize);
+    }
+
+    /// Takes the rows from `first` to `last` out of `list`. The list `other`, which is another one and empty, has them
+    /// then, in their order. `first` is not behind `last`.
+    pub fn cut(&mut self, list: ListId, first: RowId, last: RowId, other: ListId)
+        requires made { list.0 < self.old.net.heads }
+        requires other_made { other.0 < self.old.net.heads }
+        requires first_pushed { first.0 < length self.old.values }
+        requires last_pushed { last.0 < length self.old.values }
+        ensures lists { Cuts self.old.net (node self.old.net first.0) (node self.old.net last.0) other.0 self.new.net }
+        ensures values { self.new.values ≡ self.old.values }
+        ensures heads { self.new.net.heads ≡ self.old.net.heads }
+        ensures spare { self.new.spare ≡ self.old.spare }
+    {
+        let _list = list;
+        let heads = self.links.heads();
+        let (first, last) = (heads + first.0 as usize, heads + last.0 as usize);
+        self.links.cut(first, last, other.0 as usize);
     }
 
     /// The value of a row.
