@@ -1,3 +1,4 @@
 pub mod NetLemmas
 pub mod SpliceLemmas
 pub mod CutLemmas
+pub mod UndoLemmas

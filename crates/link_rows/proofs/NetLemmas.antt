@@ -1,6 +1,5 @@
 -- What a link leaves of chains.
-use Rattle.std.specs.Prelude.{slice_index}
-use Rattle.std.proofs.Common.{◌≡◌, ◌≢◌, ℕ, ◌+◌, ◌^◌, ◌<◌, ◌≤◌, List, [], ◌∷◌, ◌++◌, length, get_or, refl, ap, sym, subst, ◌∙◌, append_assoc, length-append, arith, rules, zero, suc}
+use Rattle.std.proofs.Common.{◌≡◌, ◌≢◌, ℕ, ◌+◌, ◌^◌, ◌<◌, ◌≤◌, List, [], ◌∷◌, ◌++◌, length, get_or, refl, ap, sym, subst, ◌∙◌, append_assoc, length-append, arith, zero, suc}
 use Rattle.std.proofs.Math.ListN.{set}
 use Rattle.std.proofs.lemmas.List.{get_or-set_same, get_or-set_other, get_or_append_left, length-set, append-nil}
 use Rattle.std.proofs.lemmas.Grind.{get_or-set_at}
@@ -8,7 +7,7 @@ use Rattle.std.proofs.Common.{None, Some, ◌-◌}
 use Rattle.std.proofs.lemmas.Bool.Decides.{nat_tests}
 use Rattle.std.proofs.Math.Seq.{get_or-append_seam}
 use Rattle.link_rows.specs.Tables.{row_of, first_row}
-use Rattle.link_rows.specs.Net.{Net, AllBelow, Chain, Follows, AllRows, CanRelink, last_of, IsList, IsNet, Unlinks, Relinks, Pushes, linked, unlinked, relinked, alone, grown, numbers, pushed, next_of, prev_of, nodes}
+use Rattle.link_rows.specs.Net.{Net, AllBelow, Chain, Follows, AllRows, CanRelink, last_of, IsList, IsNet, Unlinks, Relinks, Pushes, linked, unlinked, relinked, alone, grown, numbers, pushed, next_of, prev_of}
 
 pub below-get : (n : ℕ) (xs : List ℕ) (i d : ℕ) → AllBelow n xs → i < length xs → get_or xs i d < n
 below-get n [] i d b h = absurd (omega arith)

@@ -1,9 +1,9 @@
 -- A list that is put into another.
-use Rattle.std.proofs.Common.{◌≡◌, ◌≢◌, ℕ, ◌+◌, ◌<◌, ◌≤◌, List, [], ◌∷◌, ◌++◌, length, get_or, refl, ap, sym, subst, ◌∙◌, append_assoc, arith}
+use Rattle.std.proofs.Common.{◌≡◌, ◌≢◌, ℕ, ◌<◌, List, [], ◌∷◌, ◌++◌, length, sym, subst, ◌∙◌, append_assoc, arith}
 use Rattle.std.proofs.Math.ListN.{set}
 use Rattle.std.proofs.lemmas.List.{get_or-set_other, length-set, append-nil}
 use Rattle.link_rows.specs.Net.{Net, Chain, Follows, AllRows, IsList, IsNet, Splices, last_of, linked, next_of, prev_of, spliced}
-use Rattle.link_rows.proofs.NetLemmas.{Misses, Unique, apart, away, bend, chain-unique, follows-linked, heads-missed, join, kept, last-follows, last-next, misses-append, next-below, other-kept, prev-below, rows-join, rows-linked, rows-split, split, tail-missed, unique-front, unique-missed}
+use Rattle.link_rows.proofs.NetLemmas.{Misses, Unique, apart, away, bend, chain-unique, follows-linked, heads-missed, join, kept, last-follows, last-next, misses-append, other-kept, prev-below, rows-join, rows-linked, rows-split, split, tail-missed, unique-front, unique-missed}
 
 -- both parts, up to the node n that followed a
 pub spliced-front : (s : Net) (l a n o b : ℕ) (xs bs : List ℕ) → IsNet s → IsList s o (b ∷ bs) → Chain s l xs n → AllRows s xs → l < s.heads → prev_of s n ≡ a → Unique (l ∷ xs)

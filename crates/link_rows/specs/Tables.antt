@@ -1,7 +1,7 @@
 -- The rows of all lists, with the values that they hold.
-use Rattle.std.specs.Prelude.{ℕ, ◌+◌, ◌-◌, ◌≡◌, ◌≤◌, ◌<◌, ◌^◌, List, [], ◌∷◌, Option, Some, None, length, refl, nat_lt, if◌then◌else◌}
+use Rattle.std.specs.Prelude.{ℕ, ◌+◌, ◌-◌, List, [], ◌∷◌, Option, Some, None, refl, nat_lt, if◌then◌else◌}
 use Rattle.std.specs.Coded.{Coded, code_by, coded×, coded_ℕ, coded_list}
-use Rattle.link_rows.specs.Net.{Net, net_code, nodes}
+use Rattle.link_rows.specs.Net.{Net, net_code}
 
 -- `spare` is the number of rows for which there is room
 pub record Table (X : Type 0) : Type 0 where

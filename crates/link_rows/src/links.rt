@@ -1,6 +1,6 @@
 // The links of the nodes.
-ghost use Rattle.std.specs.Prelude.{◌≡◌, ◌+◌, ◌^◌, ◌<◌, ◌≤◌, IfOk, OnOk, OnErr};
-ghost use Rattle.link_rows.specs.Net.{alone, cut_out, grown, linked, next_of, nodes, prev_of, pushed, relinked, unlinked, CanRelink, Cuts, Pushes, Relinks, Splices, Unlinks};
+ghost use Rattle.std.specs.Prelude.{◌≡◌, ◌+◌, ◌^◌, ◌<◌, ◌≤◌, ◌==◌, if◌then◌else◌, IfOk, OnOk, OnErr};
+ghost use Rattle.link_rows.specs.Net.{alone, cut_out, grown, linked, next_of, nodes, prev_of, pushed, relinked, spliced, unlinked, CanRelink, Cuts, IsNet, Pushes, Relinks, Splices, Unlinks};
 
 use dired_text::Memory;
 use std::alloc::Global;
@@ -52,6 +52,13 @@ impl Links {
         ensures short { result < 2 ^ 32 }
     {
         self.heads
+    }
+
+    // Each link leads to a node.
+    pub fn are_sound(&self)
+        ensures { IsNet self.now.0 }
+    {
+        let _heads = self.heads;
     }
 
     // How many nodes there are.
@@ -140,9 +147,9 @@ impl Links {
     }
 
     pub fn relink(&mut self, row: usize)
-        requires { CanRelink self.old.0 row }
+        requires { row < nodes self.old.0 }
         ensures net { self.new.0 ≡ relinked row self.old.0 }
-        ensures lists { Relinks self.old.0 row self.new.0 }
+        ensures lists { CanRelink self.old.0 row → Relinks self.old.0 row self.new.0 }
         ensures room { self.new.1 ≡ self.old.1 }
     {
         let _heads = self.heads;
@@ -156,6 +163,7 @@ impl Links {
     pub fn splice(&mut self, after: usize, other: usize)
         requires after { after < nodes self.old.0 }
         requires other { other < nodes self.old.0 }
+        ensures net { self.new.0 ≡ (if next_of self.old.0 other == other then self.old.0 else spliced after other self.old.0) }
         ensures lists { Splices self.old.0 after other self.new.0 }
         ensures heads { self.new.0.heads ≡ self.old.0.heads }
         ensures nodes { nodes self.new.0 ≡ nodes self.old.0 }

@@ -1,7 +1,7 @@
 // Rows with values, and several lists over them.
 ghost use Rattle.std.specs.Prelude.{◌≡◌, ◌≢◌, ◌+◌, ◌^◌, ◌<◌, ◌≤◌, ◌++◌, ◌∷◌, [], ℕ, List, IfOk, IfErr, IfSome, IsOk, OnOk, OnErr, length, is_ok, if◌then◌else◌, slice_index_or};
 ghost use Rattle.std.specs.Option.{option_map};
-ghost use Rattle.link_rows.specs.Net.{Cuts, IsList, Pushes, Relinks, Splices, Unlinks, CanRelink, nodes};
+ghost use Rattle.link_rows.specs.Net.{relinked, unlinked, Cuts, IsList, Pushes, Relinks, Splices, Unlinks, CanRelink, nodes};
 ghost use Rattle.link_rows.specs.Tables.{first_row, node, place_of, row_of};
 
 use crate::links::Links;
@@ -77,6 +77,7 @@ impl<T> Rows<T> {
     /// Takes a row out of its list. It keeps its value, and between which rows it stood.
     pub fn unlink(&mut self, row: RowId)
         requires { row.0 < length self.old.values }
+        ensures net { self.new.net ≡ unlinked (node self.old.net row.0) self.old.net }
         ensures lists { Unlinks self.old.net (node self.old.net row.0) self.new.net }
         ensures values { self.new.values ≡ self.old.values }
         ensures heads { self.new.net.heads ≡ self.old.net.heads }
@@ -89,9 +90,9 @@ impl<T> Rows<T> {
     /// Puts a row that is in no list back between the two rows, or a row and an end of a list, between which it stood.
     /// These stand side by side.
     pub fn relink(&mut self, row: RowId)
-        requires made { row.0 < length self.old.values }
-        requires apart { CanRelink self.old.net (node self.old.net row.0) }
-        ensures lists { Relinks self.old.net (node self.old.net row.0) self.new.net }
+        requires { row.0 < length self.old.values }
+        ensures net { self.new.net ≡ relinked (node self.old.net row.0) self.old.net }
+        ensures lists { CanRelink self.old.net (node self.old.net row.0) → Relinks self.old.net (node self.old.net row.0) self.new.net }
         ensures values { self.new.values ≡ self.old.values }
         ensures heads { self.new.net.heads ≡ self.old.net.heads }
         ensures spare { self.new.spare ≡ self.old.spare }
@@ -111,11 +112,7 @@ impl<T> Rows<T> {
         ensures heads { self.new.net.heads ≡ self.old.net.heads }
         ensures spare { self.new.spare ≡ self.old.spare }
     {
-        let _count = self.values.len();
-        let place = match after {
-            None => list.0 as usize,
-            Some(row) => self.links.heads() + row.0 as usize,
-        };
+        let place = self.place(list, after);
         self.links.splice(place, other.0 as usize);
     }
 
@@ -154,10 +151,32 @@ impl<T> Rows<T> {
         &mut self.values[row.0 as usize]
     }
 
+    // The node of this row, or the head of the list.
+    fn place(&self, list: ListId, after: Option<RowId>) -> usize
+        requires made { list.0 < self.now.net.heads }
+        requires pushed { IfSome after (λ r. r.0 < length self.now.values) }
+        ensures value { result ≡ place_of self.now.net list.0 (option_map (λ r. r.0) after) }
+        ensures within { result < nodes self.now.net }
+    {
+        let _count = self.values.len();
+        match after {
+            None => list.0 as usize,
+            Some(row) => self.links.heads() + row.0 as usize,
+        }
+    }
+
+    /// A row that is unlinked may be relinked, and all links are then as they were, so all lists are.
+    pub fn relink_undoes_unlink(&self, row: RowId)
+        ensures { (l : ℕ) (xs ys : List ℕ) → IsList self.now.net l (xs ++ node self.now.net row.0 ∷ ys) → CanRelink (unlinked (node self.now.net row.0) self.now.net) (node self.now.net row.0) × (relinked (node self.now.net row.0) (unlinked (node self.now.net row.0) self.now.net) ≡ self.now.net) }
+    {
+        self.links.are_sound();
+    }
+
     // The row of a node, or None at a head.
     fn row_at(&self, node: usize) -> Option<RowId>
         requires { node < nodes self.now.net }
-        ensures { option_map (λ r. r.0) result ≡ row_of self.now.net node }
+        ensures row { option_map (λ r. r.0) result ≡ row_of self.now.net node }
+        ensures within { IfSome result (λ r. r.0 < length self.now.values) }
     {
         let _count = self.values.len();
         let heads = self.links.heads();
@@ -170,7 +189,8 @@ impl<T> Rows<T> {
     /// The first row of a list, or None where it has none.
     pub fn first(&self, list: ListId) -> Option<RowId>
         requires { list.0 < self.now.net.heads }
-        ensures { (xs : List ℕ) → IsList self.now.net list.0 xs → option_map (λ r. r.0) result ≡ first_row self.now.net xs }
+        ensures within { IfSome result (λ r. r.0 < length self.now.values) }
+        ensures row { (xs : List ℕ) → IsList self.now.net list.0 xs → option_map (λ r. r.0) result ≡ first_row self.now.net xs }
     {
         let _count = self.values.len();
         self.row_at(self.links.next(list.0 as usize))
@@ -179,7 +199,8 @@ impl<T> Rows<T> {
     /// The row behind a row of a list, or None at the end of the list.
     pub fn next(&self, row: RowId) -> Option<RowId>
         requires { row.0 < length self.now.values }
-        ensures { (l : ℕ) (xs ys : List ℕ) → IsList self.now.net l (xs ++ node self.now.net row.0 ∷ ys) → option_map (λ r. r.0) result ≡ first_row self.now.net ys }
+        ensures within { IfSome result (λ r. r.0 < length self.now.values) }
+        ensures row { (l : ℕ) (xs ys : List ℕ) → IsList self.now.net l (xs ++ node self.now.net row.0 ∷ ys) → option_map (λ r. r.0) result ≡ first_row self.now.net ys }
     {
         let node = self.links.heads() + row.0 as usize;
         self.row_at(self.links.next(node))

@@ -1,5 +1,4 @@
-use Rattle.std.proofs.Common.{rules}
-use Rattle.link_rows.specs.Net.{net, nodes}
+use Rattle.link_rows.specs.Net.{net}
 use Rattle.link_rows.proofs.NetLemmas.{net-linked}
 use Rattle.link_rows.proofs.links.Links.link.Goals as goal
 

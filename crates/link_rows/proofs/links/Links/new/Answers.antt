@@ -1,4 +1,4 @@
-use Rattle.std.proofs.Common.{◌≡◌, arith, rules}
+use Rattle.std.proofs.Common.{◌≡◌, arith}
 use Rattle.link_rows.proofs.NetLemmas.{net-alone}
 use Rattle.link_rows.proofs.links.Links.new.Goals as goal
 

@@ -1,4 +1,3 @@
-use Rattle.std.proofs.Common.{rules}
 use Rattle.link_rows.proofs.NetLemmas.{below-get}
 use Rattle.link_rows.proofs.links.Links.prev.Goals as goal
 

@@ -7,4 +7,4 @@ pub returns-clause-lists : goal.returns-clause-lists
 returns-clause-lists c =
     let i : IsNet c.args.self.now.0 = subst (λ v. IsNet v.0) c.self.view_is c.self.invariant in
     let e : c.link-2.new.self.0 ≡ relinked c.args.row c.args.self.now.0 = search rules in
-    subst (λ t. Relinks c.args.self.now.0 c.args.row t) (sym e) (relinks c.args.self.now.0 c.args.row i c.requires)
+    λ k. subst (λ t. Relinks c.args.self.now.0 c.args.row t) (sym e) (relinks c.args.self.now.0 c.args.row i k)

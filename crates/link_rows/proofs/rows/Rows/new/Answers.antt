@@ -1,5 +1,5 @@
-use Rattle.std.proofs.Common.{◌≡◌, ◌+◌, [], rules, subst, sym, arith, length}
-use Rattle.link_rows.specs.Net.{Net, IsList, nodes, alone, numbers}
+use Rattle.std.proofs.Common.{◌≡◌, [], rules, subst, sym, arith}
+use Rattle.link_rows.specs.Net.{IsList, alone}
 use Rattle.link_rows.proofs.NetLemmas.{alone-list, numbers-length}
 use Rattle.link_rows.proofs.rows.Rows.new.Goals as goal
 
