@@ -57,12 +57,13 @@ cuts-own s f e o l xs rs [] t he i q ho ne =
     let hl : l < length s.next = omega (arith, t.heads, i.made) in
     let p : Chain s (prev_of s f) (f ∷ rs) l = (last-follows s l xs f d.0, d.1) in
     let w = cut-parts s l f e o l xs rs t d.0 d.1 m.0 m.1 i.made ho ne g.1 (unique-front (l ∷ xs) (f ∷ rs) u)
-      (chain-unique s f rs l d.1 m.1.1 i.made) (heads-missed s l xs m.0 i.made) (heads-missed s l (f ∷ rs) m.1 i.made)
-      (apart s (prev_of s f) (f ∷ rs) l f rs l d.1 p m.1.1 m.1 i.made i.made (λ _. omega arith))
-      (unique-missed (l ∷ xs) f rs u) (subst (λ z. Misses z (l ∷ xs)) q (last-row-missed (l ∷ xs) f rs u)) ne he hl in
-    let x = subst (λ z. Chain (linked o f (linked (prev_of s f) z (linked e o s))) l xs l × Chain (linked o f (linked (prev_of s f) z (linked e o s))) o (f ∷ rs) o) (sym g.0) w in
-    (record { made = i.made; rows = rw append-nil (rows-cut s f e o xs m.0); chain = rw append-nil x.0 },
-      record { made = ho; rows = rows-cut s f e o (f ∷ rs) m.1; chain = x.1 })
+    (chain-unique s f rs l d.1 m.1.1 i.made) (heads-missed s l xs m.0 i.made) (heads-missed s l (f ∷ rs) m.1 i.made)
+    (apart s (prev_of s f) (f ∷ rs) l f rs l d.1 p m.1.1 m.1 i.made i.made (λ _. omega arith))
+    (unique-missed (l ∷ xs) f rs u) (subst (λ z. Misses z (l ∷ xs)) q (last-row-missed (l ∷ xs) f rs u)) ne he hl in
+    let x = subst (λ z. Chain (linked o f (linked (prev_of s f) z (linked e o s))) l xs l × Chain (linked o f (linked (prev_of s f) z (linked e o s))) o (f ∷ rs) o) (sym g.0) w in (
+      record { made = i.made; rows = rw append-nil (rows-cut s f e o xs m.0); chain = rw append-nil x.0 },
+      record { made = ho; rows = rows-cut s f e o (f ∷ rs) m.1; chain = x.1 },
+    )
 cuts-own s f e o l xs rs (y ∷ ys) t he i q ho ne =
     let d = split s l xs f (rs ++ y ∷ ys) l i.chain in
     let a = split s f rs y ys l d.1 in
@@ -80,8 +81,8 @@ cuts-own s f e o l xs rs (y ∷ ys) t he i q ho ne =
     let v = chain-unique s f (rs ++ y ∷ ys) l d.1 m.1.1 i.made in
     let nh : y ≢ o = (heads-missed s o (y ∷ ys) b.1 ho).0 in
     let w = cut-parts s l f e o y xs rs t d.0 a.0 m.0 b.0 i.made ho ne g.1 (unique-front (l ∷ xs) (f ∷ rs) u2)
-      (unique-front (f ∷ rs) (y ∷ ys) v) n2.0 n2.1 mp.0
-      (unique-missed (l ∷ xs) f rs u2) (subst (λ z. Misses z (l ∷ xs)) q (last-row-missed (l ∷ xs) f rs u2)) nh he b.1.0.1 in
+    (unique-front (f ∷ rs) (y ∷ ys) v) n2.0 n2.1 mp.0
+    (unique-missed (l ∷ xs) f rs u2) (subst (λ z. Misses z (l ∷ xs)) q (last-row-missed (l ∷ xs) f rs u2)) nh he b.1.0.1 in
     let x = subst (λ z. Chain (linked o f (linked (prev_of s f) z (linked e o s))) l xs y × Chain (linked o f (linked (prev_of s f) z (linked e o s))) o (f ∷ rs) o) (sym g.0) w in
     let me : Misses e (y ∷ ys) = apart s e (y ∷ ys) l y ys l a.1 h b.1.1 b.1 i.made i.made (λ _. omega arith) in
     let mo = heads-missed s o (y ∷ ys) b.1 ho in
@@ -90,9 +91,10 @@ cuts-own s f e o l xs rs (y ∷ ys) t he i q ho ne =
     let k1 = kept s e o y ys l a.1 me.0 me.1 mo.1 ne in
     let k2 = kept (linked e o s) (prev_of s f) y y ys l k1 mp.1.0 mp.1.1 (tail-missed s y ys l a.1 b.1.1 i.made) ny.0 in
     let k3 = kept (linked (prev_of s f) y (linked e o s)) o f y ys l k2 mo.0 mo.1 mf.1.1 lf in
-    let k4 : Chain (cut_out f e o s) y ys l = subst (λ z. Chain (linked o f (linked (prev_of s f) z (linked e o s))) y ys l) (sym g.0) k3 in
-    (record { made = i.made; rows = rows-cut s f e o (xs ++ y ∷ ys) (rows-join s xs (y ∷ ys) m.0 b.1); chain = join (cut_out f e o s) l xs y ys l x.0 k4 },
-      record { made = ho; rows = rows-cut s f e o (f ∷ rs) b.0; chain = x.1 })
+    let k4 : Chain (cut_out f e o s) y ys l = subst (λ z. Chain (linked o f (linked (prev_of s f) z (linked e o s))) y ys l) (sym g.0) k3 in (
+      record { made = i.made; rows = rows-cut s f e o (xs ++ y ∷ ys) (rows-join s xs (y ∷ ys) m.0 b.1); chain = join (cut_out f e o s) l xs y ys l x.0 k4 },
+      record { made = ho; rows = rows-cut s f e o (f ∷ rs) b.0; chain = x.1 },
+    )
 
 pub run-next : (s : Net) (f e l : ℕ) (xs rs ys : List ℕ) (m : ℕ) (zs : List ℕ) → IsList s l (xs ++ ((f ∷ rs) ++ ys)) → last_of f rs ≡ e → IsList s m zs → m ≢ l → Misses e (m ∷ zs) × Misses (next_of s e) (m ∷ zs)
 run-next s f e l xs rs ys m zs i q k n =
@@ -109,7 +111,7 @@ cuts-others s f e o l xs rs ys m zs i q ho k n1 n2 =
     let y = away s m zs f (rs ++ ys) l k.chain d.1 k.rows v.1.1 k.made i.made n1 in
     let z : Misses o (m ∷ zs) = (n2, heads-missed s o zs k.rows ho) in
     other-kept (linked (prev_of s f) (next_of s e) (linked e o s)) o f m zs
-      (other-kept (linked e o s) (prev_of s f) (next_of s e) m zs (other-kept s e o m zs k x.0 z) w x.1) z y
+    (other-kept (linked e o s) (prev_of s f) (next_of s e) m zs (other-kept s e o m zs k x.0 z) w x.1) z y
 
 pub cuts : (s : Net) (f e o : ℕ) → IsNet s → e < length s.next → Cuts s f e o (cut_out f e o s)
 cuts s f e o t he = λ l xs rs ys i q j ne.

@@ -183,8 +183,8 @@ unlinked-own s l xs r (y ∷ ys) t h i =
       made = i.made;
       rows = rows-linked s (prev_of s r) (next_of s r) (xs ++ y ∷ ys) (rows-join s xs (y ∷ ys) m.0 m.1.1);
       chain = subst (λ v. Chain (linked (prev_of s r) v s) l (xs ++ y ∷ ys) l) (sym e) (join (linked (prev_of s r) y s) l xs y ys l
-        (bend s (prev_of s r) y r l xs d.0 refl (unique-front (l ∷ xs) (r ∷ y ∷ ys) u) (misses-append y xs (r ∷ []) v.1).0 (prev-below s r t h) b)
-        (kept s (prev_of s r) y y ys l d.1.1 g.0 g.1 (tail-missed s y ys l d.1.1 m.1.1.1 i.made) v.0));
+          (bend s (prev_of s r) y r l xs d.0 refl (unique-front (l ∷ xs) (r ∷ y ∷ ys) u) (misses-append y xs (r ∷ []) v.1).0 (prev-below s r t h) b)
+          (kept s (prev_of s r) y y ys l d.1.1 g.0 g.1 (tail-missed s y ys l d.1.1 m.1.1.1 i.made) v.0));
     }
 
 -- the first node of ys, or l
@@ -195,16 +195,16 @@ unlinked-other s l xs r [] m zs i j n =
     let p = rows-split s xs (r ∷ []) i.rows in
     let f : Chain s (prev_of s r) (r ∷ []) l = (last-follows s l xs r d.0, d.1) in
     other-kept s (prev_of s r) (next_of s r) m zs j
-      (away s m zs (prev_of s r) (r ∷ []) l j.chain f j.rows p.1 j.made i.made n)
-      (subst (λ v. Misses v (m ∷ zs)) (sym e) (away s m zs l (xs ++ r ∷ []) l j.chain i.chain j.rows i.rows j.made i.made n))
+    (away s m zs (prev_of s r) (r ∷ []) l j.chain f j.rows p.1 j.made i.made n)
+    (subst (λ v. Misses v (m ∷ zs)) (sym e) (away s m zs l (xs ++ r ∷ []) l j.chain i.chain j.rows i.rows j.made i.made n))
 unlinked-other s l xs r (y ∷ ys) m zs i j n =
     let d = split s l xs r (y ∷ ys) l i.chain in
     let e : next_of s r ≡ y = d.1.0.0 in
     let p = rows-split s xs (r ∷ y ∷ ys) i.rows in
     let f : Chain s (prev_of s r) (r ∷ y ∷ ys) l = (last-follows s l xs r d.0, d.1) in
     other-kept s (prev_of s r) (next_of s r) m zs j
-      (away s m zs (prev_of s r) (r ∷ y ∷ ys) l j.chain f j.rows p.1 j.made i.made n)
-      (subst (λ v. Misses v (m ∷ zs)) (sym e) (away s m zs y ys l j.chain d.1.1 j.rows p.1.1.1 j.made i.made n))
+    (away s m zs (prev_of s r) (r ∷ y ∷ ys) l j.chain f j.rows p.1 j.made i.made n)
+    (subst (λ v. Misses v (m ∷ zs)) (sym e) (away s m zs y ys l j.chain d.1.1 j.rows p.1.1.1 j.made i.made n))
 
 -- the lists of a row's neighbours: where p is followed by n both ways, r is put between them
 pub below-more : (n m : ℕ) (xs : List ℕ) → AllBelow n xs → n ≤ m → AllBelow m xs
@@ -249,7 +249,6 @@ row-met s [] y i j c n = tt
 row-met s (x ∷ xs) y i j c n =
     ((λ (e : x ≡ y). n (subst (λ v. next_of s (prev_of s v) ≡ v) e (ap (λ v. next_of s v) c.0.1 ∙ c.0.0))), row-met s xs y x j c.1 n)
 
-
 pub last-next : (s : Net) (i : ℕ) (xs : List ℕ) (j : ℕ) → Chain s i xs j → Follows s (last_of i xs) j
 last-next s i [] j c = c
 last-next s i (x ∷ xs) j c = last-next s x xs j c.1
@@ -273,9 +272,9 @@ relinked-own s r l xs [] t k i q =
     record {
       made = i.made;
       rows = rows-join (relinked r s) xs (r ∷ []) (rows-linked (linked p r s) r (next_of s r) xs (rows-linked s p r xs m))
-        (rows-linked (linked p r s) r (next_of s r) (r ∷ []) (rows-linked s p r (r ∷ []) ((k.row, k.pushed), tt)));
+          (rows-linked (linked p r s) r (next_of s r) (r ∷ []) (rows-linked s p r (r ∷ []) ((k.row, k.pushed), tt)));
       chain = subst (λ v. Chain (linked r v (linked p r s)) l (xs ++ r ∷ []) l) (sym e)
-        (join (linked r l (linked p r s)) l xs r [] l g (follows-linked (linked p r s) r l bn bl));
+          (join (linked r l (linked p r s)) l xs r [] l g (follows-linked (linked p r s) r l bn bl));
     }
 relinked-own s r l xs (y ∷ ys) t k i q =
     let w = split s l xs y ys l i.chain in
@@ -300,9 +299,9 @@ relinked-own s r l xs (y ∷ ys) t k i q =
     record {
       made = i.made;
       rows = rows-linked (linked p r s) r (next_of s r) (xs ++ r ∷ y ∷ ys) (rows-linked s p r (xs ++ r ∷ y ∷ ys)
-        (rows-join s xs (r ∷ y ∷ ys) m.0 ((k.row, k.pushed), m.1)));
+          (rows-join s xs (r ∷ y ∷ ys) m.0 ((k.row, k.pushed), m.1)));
       chain = subst (λ z. Chain (linked r z (linked p r s)) l (xs ++ r ∷ y ∷ ys) l) (sym e)
-        (join (linked r y (linked p r s)) l xs r (y ∷ ys) l g (follows-linked (linked p r s) r y bn by, n));
+          (join (linked r y (linked p r s)) l xs r (y ∷ ys) l g (follows-linked (linked p r s) r y bn by, n));
     }
 
 -- All lists but one stay.
@@ -317,7 +316,7 @@ relinked-other s r l xs [] m zs k i q j n =
     let w = away s m zs (prev_of s r) [] l j.chain h j.rows tt j.made i.made n in
     let g = other-kept s (prev_of s r) r m zs j w x in
     other-kept (linked (prev_of s r) r s) r (next_of s r) m zs g x
-      (subst (λ z. Misses z (m ∷ zs)) (sym e) (away s m zs l xs l j.chain c j.rows v j.made i.made n))
+    (subst (λ z. Misses z (m ∷ zs)) (sym e) (away s m zs l xs l j.chain c j.rows v j.made i.made n))
 relinked-other s r l xs (y ∷ ys) m zs k i q j n =
     let d = split s l xs y ys l i.chain in
     let v = rows-split s xs (y ∷ ys) i.rows in
@@ -328,7 +327,7 @@ relinked-other s r l xs (y ∷ ys) m zs k i q j n =
     let w = away s m zs (prev_of s r) (y ∷ ys) l j.chain h j.rows v.1 j.made i.made n in
     let g = other-kept s (prev_of s r) r m zs j w x in
     other-kept (linked (prev_of s r) r s) r (next_of s r) m zs g x
-      (subst (λ z. Misses z (m ∷ zs)) (sym e) (away s m zs y ys l j.chain d.1 j.rows v.1.1 j.made i.made n))
+    (subst (λ z. Misses z (m ∷ zs)) (sym e) (away s m zs y ys l j.chain d.1 j.rows v.1.1 j.made i.made n))
 
 pub chain-grown : (s : Net) (i : ℕ) (xs : List ℕ) (j : ℕ) → IsNet s → Chain s i xs j → AllRows s xs → i < length s.next → j < length s.next → Chain (grown s) i xs j
 chain-grown s i [] j t c m h k =
@@ -373,14 +372,16 @@ pushes s l t = λ (xs : List ℕ) (i : IsList s l xs).
     let own : IsList (pushed l s) l (xs ++ k ∷ []) = record {
       made = i.made;
       rows = rows-linked (linked p k (grown s)) k l (xs ++ k ∷ []) (rows-linked (grown s) p k (xs ++ k ∷ [])
-        (rows-join (grown s) xs (k ∷ []) g.rows ((t.heads, omega (arith, e)), tt)));
+          (rows-join (grown s) xs (k ∷ []) g.rows ((t.heads, omega (arith, e)), tt)));
       chain = join (pushed l s) l xs k [] l c2 (follows-linked (linked p k (grown s)) k l a3 a4);
-    } in
-    (own, λ (m : ℕ) (zs : List ℕ) (j : IsList s m zs) (n : m ≢ l).
-      let x : Misses k (m ∷ zs) = ((λ (z : m ≡ k). omega (arith, j.made, t.heads)), new-missed s zs j.rows) in
-      other-kept (linked p k (grown s)) k l m zs
-        (other-kept (grown s) p k m zs (list-grown s m zs t j) (away s m zs p [] l j.chain (last-follows s l xs l i.chain) j.rows tt j.made i.made n) x)
-        x (n, heads-missed s l zs j.rows i.made))
+    } in (
+      own,
+      λ (m : ℕ) (zs : List ℕ) (j : IsList s m zs) (n : m ≢ l).
+          let x : Misses k (m ∷ zs) = ((λ (z : m ≡ k). omega (arith, j.made, t.heads)), new-missed s zs j.rows) in
+          other-kept (linked p k (grown s)) k l m zs
+          (other-kept (grown s) p k m zs (list-grown s m zs t j) (away s m zs p [] l j.chain (last-follows s l xs l i.chain) j.rows tt j.made i.made n) x)
+          x (n, heads-missed s l zs j.rows i.made),
+    )
 
 pub unlinks : (s : Net) (r : ℕ) → IsNet s → r < length s.next → Unlinks s r (unlinked r s)
 unlinks s r t h = λ l xs ys i. (unlinked-own s l xs r ys t h i, λ m zs j n. unlinked-other s l xs r ys m zs i j n)

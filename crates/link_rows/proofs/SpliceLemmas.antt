@@ -46,17 +46,17 @@ splices-some s l a o b xs [] bs t i q j ne ha =
     let e : next_of s o ≡ b = j.chain.0.0 in
     let hl : l < length s.next = omega (arith, t.heads, i.made) in
     let w = spliced-front s l a l o b xs bs t j c m i.made f.1 (chain-unique s l xs l c m i.made)
-      (away s l xs b bs o c j.chain.1 m j.rows.1 i.made j.made ne)
-      (away s l xs (prev_of s o) [] o c (last-follows s o (b ∷ bs) o j.chain) m tt i.made j.made ne)
-      (away s o (b ∷ bs) a [] l j.chain f j.rows tt j.made i.made on)
-      (away s o (b ∷ bs) l xs l j.chain c j.rows m j.made i.made on)
-      (heads-missed s l xs m i.made) ne ha hl in
+    (away s l xs b bs o c j.chain.1 m j.rows.1 i.made j.made ne)
+    (away s l xs (prev_of s o) [] o c (last-follows s o (b ∷ bs) o j.chain) m tt i.made j.made ne)
+    (away s o (b ∷ bs) a [] l j.chain f j.rows tt j.made i.made on)
+    (away s o (b ∷ bs) l xs l j.chain c j.rows m j.made i.made on)
+    (heads-missed s l xs m i.made) ne ha hl in
     record {
       made = i.made;
       rows = rw append-nil (rows-linked (linked (prev_of s o) (next_of s a) (linked a (next_of s o) s)) o o (xs ++ b ∷ bs)
-        (rows-linked (linked a (next_of s o) s) (prev_of s o) (next_of s a) (xs ++ b ∷ bs) (rows-linked s a (next_of s o) (xs ++ b ∷ bs) (rows-join s xs (b ∷ bs) m j.rows))));
+          (rows-linked (linked a (next_of s o) s) (prev_of s o) (next_of s a) (xs ++ b ∷ bs) (rows-linked s a (next_of s o) (xs ++ b ∷ bs) (rows-join s xs (b ∷ bs) m j.rows))));
       chain = rw append-nil (subst (λ z. Chain (linked o o (linked (prev_of s o) z (linked a (next_of s o) s))) l (xs ++ b ∷ bs) l) (sym f.0)
-        (subst (λ z. Chain (linked o o (linked (prev_of s o) l (linked a z s))) l (xs ++ b ∷ bs) l) (sym e) w));
+          (subst (λ z. Chain (linked o o (linked (prev_of s o) l (linked a z s))) l (xs ++ b ∷ bs) l) (sym e) w));
     }
 splices-some s l a o b xs (y ∷ ys) bs t i q j ne ha =
     let d = split s l xs y ys l i.chain in
@@ -81,14 +81,14 @@ splices-some s l a o b xs (y ∷ ys) bs t i q j ne ha =
     let k2 = kept (linked a b s) k y y ys l k1 mc2.1.0 mc2.1.1 (tail-missed s y ys l d.1 m.1.1 i.made) v.0 in
     let k3 = kept (linked k y (linked a b s)) o o y ys l k2 z.0 z.1 z.1 ne in
     let x : Chain (linked o o (linked k y (linked a b s))) l (xs ++ (b ∷ (bs ++ y ∷ ys))) l =
-      rw append_assoc at (join (linked o o (linked k y (linked a b s))) l (xs ++ b ∷ bs) y ys l w k3) in
+    rw append_assoc at (join (linked o o (linked k y (linked a b s))) l (xs ++ b ∷ bs) y ys l w k3) in
     record {
       made = i.made;
       rows = rows-linked (linked k (next_of s a) (linked a (next_of s o) s)) o o (xs ++ ((b ∷ bs) ++ y ∷ ys))
-        (rows-linked (linked a (next_of s o) s) k (next_of s a) (xs ++ ((b ∷ bs) ++ y ∷ ys)) (rows-linked s a (next_of s o) (xs ++ ((b ∷ bs) ++ y ∷ ys))
-        (rows-join s xs ((b ∷ bs) ++ y ∷ ys) m.0 (rows-join s (b ∷ bs) (y ∷ ys) j.rows m.1))));
+          (rows-linked (linked a (next_of s o) s) k (next_of s a) (xs ++ ((b ∷ bs) ++ y ∷ ys)) (rows-linked s a (next_of s o) (xs ++ ((b ∷ bs) ++ y ∷ ys))
+          (rows-join s xs ((b ∷ bs) ++ y ∷ ys) m.0 (rows-join s (b ∷ bs) (y ∷ ys) j.rows m.1))));
       chain = subst (λ z. Chain (linked o o (linked k z (linked a (next_of s o) s))) l (xs ++ (b ∷ (bs ++ y ∷ ys))) l) (sym f.0)
-        (subst (λ z. Chain (linked o o (linked k y (linked a z s))) l (xs ++ (b ∷ (bs ++ y ∷ ys))) l) (sym e) x);
+          (subst (λ z. Chain (linked o o (linked k y (linked a z s))) l (xs ++ (b ∷ (bs ++ y ∷ ys))) l) (sym e) x);
     }
 
 -- Neither a node nor the one that follows it is in another list.
@@ -96,16 +96,18 @@ pub next-missed : (s : Net) (l a : ℕ) (xs ys : List ℕ) (m : ℕ) (zs : List 
 next-missed s l a xs [] m zs i q k n =
     let c : Chain s l xs l = rw append-nil at i.chain in
     let v : AllRows s xs = rw append-nil at i.rows in
-    let f : Follows s a l = subst (λ z. Follows s z l) q (last-next s l xs l c) in
-    (away s m zs a [] l k.chain f k.rows tt k.made i.made n,
-      subst (λ z. Misses z (m ∷ zs)) (sym f.0) (away s m zs l xs l k.chain c k.rows v k.made i.made n))
+    let f : Follows s a l = subst (λ z. Follows s z l) q (last-next s l xs l c) in (
+      away s m zs a [] l k.chain f k.rows tt k.made i.made n,
+      subst (λ z. Misses z (m ∷ zs)) (sym f.0) (away s m zs l xs l k.chain c k.rows v k.made i.made n),
+    )
 next-missed s l a xs (y ∷ ys) m zs i q k n =
     let d = split s l xs y ys l i.chain in
     let v = rows-split s xs (y ∷ ys) i.rows in
     let f : Follows s a y = subst (λ z. Follows s z y) q (last-next s l xs y d.0) in
-    let g : Chain s a (y ∷ ys) l = (f, d.1) in
-    (away s m zs a (y ∷ ys) l k.chain g k.rows v.1 k.made i.made n,
-      subst (λ z. Misses z (m ∷ zs)) (sym f.0) (away s m zs y ys l k.chain d.1 k.rows v.1.1 k.made i.made n))
+    let g : Chain s a (y ∷ ys) l = (f, d.1) in (
+      away s m zs a (y ∷ ys) l k.chain g k.rows v.1 k.made i.made n,
+      subst (λ z. Misses z (m ∷ zs)) (sym f.0) (away s m zs y ys l k.chain d.1 k.rows v.1.1 k.made i.made n),
+    )
 
 pub splices-others : (s : Net) (l a o b : ℕ) (xs ys bs : List ℕ) (m : ℕ) (zs : List ℕ) → IsList s l (xs ++ ys) → last_of l xs ≡ a → IsList s o (b ∷ bs) → IsList s m zs → m ≢ l → m ≢ o → IsList (spliced a o s) m zs
 splices-others s l a o b xs ys bs m zs i q j k n1 n2 =
@@ -116,7 +118,7 @@ splices-others s l a o b xs ys bs m zs i q j k n1 n2 =
     let z : Misses o (m ∷ zs) = (n2, heads-missed s o zs k.rows j.made) in
     let s1 = linked a (next_of s o) s in
     other-kept (linked (prev_of s o) (next_of s a) s1) o o m zs
-      (other-kept s1 (prev_of s o) (next_of s a) m zs (other-kept s a (next_of s o) m zs k nb.0 x2) w nb.1) z z
+    (other-kept s1 (prev_of s o) (next_of s a) m zs (other-kept s a (next_of s o) m zs k nb.0 x2) w nb.1) z z
 
 pub splices-none-at : (s : Net) (o l : ℕ) (xs ys bs : List ℕ) → next_of s o ≡ o → IsList s l (xs ++ ys) → IsList s o bs → IsList s l (xs ++ (bs ++ ys)) × IsList s o []
 splices-none-at s o l xs ys [] e i j = (i, j)
@@ -130,10 +132,13 @@ splices-none s a o e = λ l xs ys bs i q j ne.
 pub splices-at : (s : Net) (a o l : ℕ) (xs ys bs : List ℕ) → IsNet s → a < length s.next → next_of s o ≢ o → IsList s l (xs ++ ys) → last_of l xs ≡ a → IsList s o bs → l ≢ o
     → IsList (spliced a o s) l (xs ++ (bs ++ ys)) × (IsList (spliced a o s) o [] × ((m : ℕ) (zs : List ℕ) → IsList s m zs → m ≢ l → m ≢ o → IsList (spliced a o s) m zs))
 splices-at s a o l xs ys [] t h e i q j ne = absurd (e j.chain.0)
-splices-at s a o l xs ys (b ∷ bs) t h e i q j ne =
-    (splices-some s l a o b xs ys bs t i q j ne h,
-      (spliced-o s a (next_of s o) (prev_of s o) (next_of s a) o t j.made,
-        λ m zs k n1 n2. splices-others s l a o b xs ys bs m zs i q j k n1 n2))
+splices-at s a o l xs ys (b ∷ bs) t h e i q j ne = (
+  splices-some s l a o b xs ys bs t i q j ne h,
+  (
+    spliced-o s a (next_of s o) (prev_of s o) (next_of s a) o t j.made,
+    λ m zs k n1 n2. splices-others s l a o b xs ys bs m zs i q j k n1 n2,
+  ),
+)
 
 pub splices : (s : Net) (a o : ℕ) → IsNet s → a < length s.next → next_of s o ≢ o → Splices s a o (spliced a o s)
 splices s a o t h e = λ l xs ys bs i q j ne. splices-at s a o l xs ys bs t h e i q j ne

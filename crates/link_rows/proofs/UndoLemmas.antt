@@ -33,9 +33,10 @@ undone-by s r t g h e n f =
     let y : set (set (set s.prev k p) r p) k r ≡ s.prev = ap (λ v. set v k r) (set-same (set s.prev k p) r p b) ∙ (set-twice s.prev k p r ∙ set-same s.prev k r f) in
     let w : net s.heads (set (set (set s.next p k) p r) r k) (set (set (set s.prev k p) r p) k r) ≡ s = ap (λ v. net s.heads v (set (set (set s.prev k p) r p) k r)) x ∙ ap (λ v. net s.heads s.next v) y in
     let w1 : net s.heads (set (set (set s.next p k) p r) r (get_or (set s.next p k) r 0)) (set (set (set s.prev k p) r p) (get_or (set s.next p k) r 0) r) ≡ s =
-      subst (λ v. net s.heads (set (set (set s.next p k) p r) r v) (set (set (set s.prev k p) r p) v r) ≡ s) (sym a) w in
-    (record { row = g; pushed = rw length-set h; out = λ z. n (sym d ∙ z); side_by_side = d ∙ sym a },
-      subst (λ v. net s.heads (set (set (set s.next p k) v r) r (get_or (set s.next p k) r 0)) (set (set (set s.prev k p) r v) (get_or (set s.next p k) r 0) r) ≡ s) (sym b) w1)
+    subst (λ v. net s.heads (set (set (set s.next p k) p r) r v) (set (set (set s.prev k p) r p) v r) ≡ s) (sym a) w in (
+      record { row = g; pushed = rw length-set h; out = λ z. n (sym d ∙ z); side_by_side = d ∙ sym a },
+      subst (λ v. net s.heads (set (set (set s.next p k) v r) r (get_or (set s.next p k) r 0)) (set (set (set s.prev k p) r v) (get_or (set s.next p k) r 0) r) ≡ s) (sym b) w1,
+    )
 
 pub undone : (s : Net) (l : ℕ) (xs : List ℕ) (r : ℕ) (ys : List ℕ) → IsNet s → IsList s l (xs ++ r ∷ ys) → CanRelink (unlinked r s) r × (relinked r (unlinked r s) ≡ s)
 undone s l xs r ys t i =

@@ -3,5 +3,7 @@
 
 mod links;
 mod rows;
+#[cfg(test)]
+mod tests;
 
 pub use rows::{ListId, RowId, Rows};
