@@ -13,7 +13,8 @@ fn values(alloc: Global, rows: &Rows<u8>, list: ListId) -> Result<Vec<u8>, Memor
 {
     let mut all = Vec::new(alloc);
     let mut at = rows.first(list);
-    for _ in 0..9 {
+    for step in 0..9 {
+        let _step: u8 = step;
         if let Some(row) = at {
             all.push(*rows.get(row))?;
             at = rows.next(row);
