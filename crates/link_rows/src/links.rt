@@ -191,9 +191,9 @@ impl Links {
     {
         let _heads = self.heads;
         let before = self.prev(first);
-        let behind = self.next(last);
+        let end = self.next(last);
         self.link(last, other);
-        self.link(before, behind);
+        self.link(before, end);
         self.link(other, first);
     }
 }

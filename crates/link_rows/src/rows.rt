@@ -1,7 +1,7 @@
 // Rows with values, and several lists over them.
-ghost use Rattle.std.specs.Prelude.{◌≡◌, ◌≢◌, ◌+◌, ◌^◌, ◌<◌, ◌≤◌, ◌++◌, ◌∷◌, [], ℕ, List, IfOk, IfErr, IfSome, IsOk, OnOk, OnErr, length, is_ok, if◌then◌else◌, slice_index_or};
+ghost use Rattle.std.specs.Prelude.{◌≡◌, ◌==◌, ◌≢◌, ◌+◌, ◌^◌, ◌<◌, ◌≤◌, ◌++◌, ◌∷◌, [], ℕ, List, IfOk, IfErr, IfSome, IsOk, OnOk, OnErr, length, is_ok, if◌then◌else◌, slice_index_or};
 ghost use Rattle.std.specs.Option.{option_map};
-ghost use Rattle.link_rows.specs.Net.{relinked, unlinked, Cuts, IsList, Pushes, Relinks, Splices, Unlinks, CanRelink, nodes};
+ghost use Rattle.link_rows.specs.Net.{cut_out, next_of, pushed, relinked, spliced, unlinked, Cuts, IsList, Pushes, Relinks, Splices, Unlinks, CanRelink, nodes};
 ghost use Rattle.link_rows.specs.Tables.{first_row, node, place_of, row_of};
 
 use crate::links::Links;
@@ -107,6 +107,7 @@ impl<T> Rows<T> {
         requires made { list.0 < self.old.net.heads }
         requires other_made { other.0 < self.old.net.heads }
         requires pushed { IfSome after (λ r. r.0 < length self.old.values) }
+        ensures net { self.new.net ≡ (if next_of self.old.net other.0 == other.0 then self.old.net else spliced (place_of self.old.net list.0 (option_map (λ r. r.0) after)) other.0 self.old.net) }
         ensures lists { Splices self.old.net (place_of self.old.net list.0 (option_map (λ r. r.0) after)) other.0 self.new.net }
         ensures values { self.new.values ≡ self.old.values }
         ensures heads { self.new.net.heads ≡ self.old.net.heads }
@@ -123,6 +124,7 @@ impl<T> Rows<T> {
         requires other_made { other.0 < self.old.net.heads }
         requires first_pushed { first.0 < length self.old.values }
         requires last_pushed { last.0 < length self.old.values }
+        ensures net { self.new.net ≡ cut_out (node self.old.net first.0) (node self.old.net last.0) other.0 self.old.net }
         ensures lists { Cuts self.old.net (node self.old.net first.0) (node self.old.net last.0) other.0 self.new.net }
         ensures values { self.new.values ≡ self.old.values }
         ensures heads { self.new.net.heads ≡ self.old.net.heads }
@@ -172,6 +174,11 @@ impl<T> Rows<T> {
         self.links.are_sound();
     }
 
+    /// A list has one sequence of rows.
+    pub fn lists_are_sequences(&self)
+        ensures { (l : ℕ) (xs ys : List ℕ) → IsList self.now.net l xs → IsList self.now.net l ys → xs ≡ ys }
+    {}
+
     // The row of a node, or None at a head.
     fn row_at(&self, node: usize) -> Option<RowId>
         requires { node < nodes self.now.net }
@@ -213,6 +220,7 @@ impl<T> Rows<T> {
     pub fn push_back(&mut self, list: ListId, value: T) -> Result<RowId, (Memory, T)>
         requires made { list.0 < self.old.net.heads }
         requires few { length self.old.values < 4294967295 }
+        ensures net { OnOk result (self.new.net ≡ pushed list.0 self.old.net) }
         ensures lists { OnOk result (Pushes self.old.net list.0 self.new.net) }
         ensures row { IfOk result (λ r. r.0 ≡ length self.old.values) }
         ensures values { self.new.values ≡ (if is_ok result then self.old.values ++ value ∷ [] else self.old.values) }

@@ -66,3 +66,20 @@ fn splice_and_cut_between_unlink_and_relink(rt: HostRuntime) -> Result<(), Fail>
     assert!(rt; values(rt.alloc(), &rows, ListId(0))?.as_slice() == [1, 2, 3, 4].as_slice());
     Ok(())
 }
+
+#[test]
+fn rows_of_many_lists_stay_apart(rt: HostRuntime) -> Result<(), Fail> {
+    let mut rows = Rows::new(rt.alloc(), 1000)?;
+    rows.reserve(3)?;
+    rows.push_back(ListId(999), 1).ok().ok_or("push")?;
+    rows.push_back(ListId(0), 2).ok().ok_or("push")?;
+    rows.push_back(ListId(999), 3).ok().ok_or("push")?;
+    *rows.get_mut(RowId(2)) = 4;
+    assert!(rt; values(rt.alloc(), &rows, ListId(999))?.as_slice() == [1, 4].as_slice());
+    assert!(rt; values(rt.alloc(), &rows, ListId(0))?.as_slice() == [2].as_slice());
+    assert!(rt; rows.first(ListId(500)).is_none());
+    rows.splice(ListId(500), None, ListId(999));
+    assert!(rt; rows.first(ListId(999)).is_none());
+    assert!(rt; values(rt.alloc(), &rows, ListId(500))?.as_slice() == [1, 4].as_slice());
+    Ok(())
+}
