@@ -1,0 +1,4 @@
+pub mod NetLemmas
+pub mod SpliceLemmas
+pub mod CutLemmas
+pub mod UndoLemmas
