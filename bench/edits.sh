@@ -2,11 +2,8 @@
 # The time of `commit` on buffers of 100,000 and of 199,990 lines beside `cat BEFORE AFTER | md5sum`, in an empty folder:
 # unchanged, with each name changed, with each mode changed, and with a bad name on the last line. Each ends before it
 # changes anything.
-# edits.sh PROGRAM
+# edits.sh [PROGRAM]
 set -eu
-program=$(readlink -f "$1")
-work=$(mktemp -d)
-trap 'rm -rf "$work"' EXIT
 . "$(dirname "$(readlink -f "$0")")/timing.sh"
 mkdir "$work/empty"
 

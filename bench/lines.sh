@@ -3,10 +3,6 @@
 # listing without an edit, which reads each line back, beside `ls -lA`.
 # lines.sh [PROGRAM]
 set -eu
-top=$(dirname "$(readlink -f "$0")")/..
-program=$(readlink -f "${1:-$top/crates/dired_cli/out/dired_cli}")
-work=$(mktemp -d)
-trap 'rm -rf "$work"' EXIT
 . "$(dirname "$(readlink -f "$0")")/timing.sh"
 
 in_tree() { (cd "$work/tree" && "$@"); }

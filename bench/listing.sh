@@ -3,10 +3,6 @@
 # the larger folder.
 # listing.sh [PROGRAM]
 set -eu
-top=$(dirname "$(readlink -f "$0")")/..
-program=$(readlink -f "${1:-$top/crates/dired_cli/out/dired_cli}")
-work=$(mktemp -d)
-trap 'rm -rf "$work"' EXIT
 . "$(dirname "$(readlink -f "$0")")/timing.sh"
 mkdir "$work/programs"
 

@@ -2,10 +2,6 @@
 # One edited name in a listing of 99,990 and of 199,980 lines: the time of `commit` beside `cat BEFORE AFTER | md5sum`.
 # one-name.sh [PROGRAM]
 set -eu
-top=$(dirname "$(readlink -f "$0")")/..
-program=$(readlink -f "${1:-$top/crates/dired_cli/out/dired_cli}")
-work=$(mktemp -d)
-trap 'rm -rf "$work"' EXIT
 . "$(dirname "$(readlink -f "$0")")/timing.sh"
 mkdir "$work/tree"
 

@@ -1,4 +1,8 @@
-# Sourced by the benches.
+# Sourced by the benches: their program, which is their first argument, a folder of their own, and what times a command.
+top=$(dirname "$(readlink -f "$0")")/..
+program=$(readlink -f "${1:-$top/crates/dired_cli/out/dired_cli}")
+work=$(mktemp -d)
+trap 'rm -rf "$work"' EXIT
 
 # Made before each run of what is timed; a bench may say what.
 prepare() { :; }
