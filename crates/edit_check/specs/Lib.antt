@@ -6,3 +6,4 @@ pub mod WellFormed
 pub mod Edited
 pub mod Counting
 pub mod Claims
+pub mod Tables

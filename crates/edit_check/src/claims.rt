@@ -10,7 +10,8 @@ use dired_text::{Memory, Path};
 use std::alloc::Global;
 use std::collections::BTreeMap;
 
-/// The first line that claims something, the value that it claims it with, and the first line that claims it with another value.
+/// The first line that claims something, the value that it claims it with, and the first line that claims it with another
+/// value. Where lines claim a path, the value is the line itself.
 #[derive(Clone, Copy)]
 pub struct Claim {
     pub line: u32,
@@ -75,11 +76,11 @@ impl PathClaims {
     }
 
     /// Notes that a line claims a path. The lines come in their order.
-    pub fn note(&mut self, path: &Path, value: u32, line: u32) -> Result<(), Memory>
-        ensures { OnOk result ((p : Names) → get path_cmp self.new.claims p ≡ cond (is_same_path path.now p) (Some (claimed_by value line (get path_cmp self.old.claims path.now))) (get path_cmp self.old.claims p)) }
+    pub fn note(&mut self, path: Path, line: u32) -> Result<(), Memory>
+        ensures { OnOk result ((p : Names) → get path_cmp self.new.claims p ≡ cond (is_same_path path p) (Some (claimed_by line line (get path_cmp self.old.claims path))) (get path_cmp self.old.claims p)) }
     {
-        let claim = claimed(self.claims.get(path).copied(), value, line);
-        self.claims.insert(path.copy()?, claim)?;
+        let claim = claimed(self.claims.get(&path).copied(), line, line);
+        self.claims.insert(path, claim)?;
         Ok(())
     }
 
@@ -90,11 +91,11 @@ impl PathClaims {
         self.claims.get(path).map(|claim| claim.line)
     }
 
-    /// The first line that claims the path with another value than this one.
-    pub fn other(&self, path: &Path, value: u32) -> Option<u32>
-        ensures { result ≡ other_line (get path_cmp self.now.claims path.now) value }
+    /// The first line but this one that claims the path.
+    pub fn other(&self, path: &Path, line: u32) -> Option<u32>
+        ensures { result ≡ other_line (get path_cmp self.now.claims path.now) line }
     {
-        other_than(self.claims.get(path).copied(), value)
+        other_than(self.claims.get(path).copied(), line)
     }
 
     /// The least first line that claims one of these paths.

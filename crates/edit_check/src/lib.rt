@@ -7,6 +7,7 @@ mod fault;
 mod fronts;
 mod row;
 mod sight;
+mod table;
 
 pub use counts::Counts;
 pub use fault::CheckFault;

@@ -1,15 +1,16 @@
 // The changes, found by their paths.
-ghost use Rattle.std.specs.Prelude.{◌≡◌, ◌<◌, ℕ, IfOk, IfSome, OnOk, Some, None, length, is_some, map, take, drop};
-ghost use Rattle.std.specs.Option.{option_map};
+ghost use Rattle.std.specs.Prelude.{◌≡◌, IfOk, OnOk, ◌≢◌, [], Some, None, All, IsTrue, is_some, if◌then◌else◌};
+ghost use Rattle.std.specs.Option.{option_or};
 ghost use Rattle.std.specs.BTreeMap.{get};
-ghost use Rattle.dired_text.specs.Paths.{Names, path_cmp};
-ghost use Rattle.edit_check.specs.declared.row.Row.{Row as RowOf};
-ghost use Rattle.edit_check.specs.Rows.{row_from, is_source, place_from};
-ghost use Rattle.edit_check.specs.Tables.{AreSources, AreWriters, AreMovers, line_value, writes, moves};
+ghost use Rattle.dired_text.specs.Paths.{Names, path_cmp, parent};
+ghost use Rattle.edit_check.specs.Place.{placed};
+ghost use Rattle.edit_check.specs.Rows.{is_at, is_far as is_far_row, is_same_path, is_source, turn_of, turn_to, written as written_path};
+ghost use Rattle.edit_check.specs.Tables.{AreTurns, AreWriters, AreMovers};
+ghost use Rattle.edit_check.specs.WellFormed.{IsNoRoot};
 
 use crate::claims::PathClaims;
-use crate::row::Row;
-use dired_text::{Memory, Path};
+use crate::row::{Row, Turn};
+use dired_text::{Memory, Name, Path};
 use std::alloc::Global;
 use std::collections::BTreeMap;
 
@@ -17,36 +18,87 @@ use std::collections::BTreeMap;
 #[derive(Drop)]
 pub struct Table {
     pub rows: Vec<Row>,
-    // the place of the first row of each source
-    sources: BTreeMap<Path, usize>,
+    // what becomes of each source
+    pub turns: BTreeMap<Path, Turn>,
     // the lines that write each path
-    writers: PathClaims,
+    pub writers: PathClaims,
     // the lines that give each source a new path
-    movers: PathClaims,
-    ghost sources_are: { AreSources sources rows.items },
-    ghost writers_are: { AreWriters writers.claims rows.items },
-    ghost movers_are: { AreMovers movers.claims rows.items },
+    pub movers: PathClaims,
 }
 
-// The place of the first row of each source.
-fn sources_of(alloc: Global, rows: &[Row]) -> Result<BTreeMap<Path, usize>, Memory>
-    ensures { IfOk result (λ m. AreSources m rows.now) }
+/// The written path: the new path, or the source where there is none.
+pub fn written(alloc: Global, row: &Row) -> Result<Path, Memory>
+    ensures { IfOk result (λ p. p ≡ written_path row.now) }
 {
-    let mut sources = BTreeMap::new(alloc);
-    for (at, row) in rows.iter().enumerate() {
-        if let Some(source) = &row.source {
-            note_source(&mut sources, source, at)?;
-        }
+    match (&row.to, &row.source) {
+        (Some(path), _) | (None, Some(path)) => path.copy(),
+        (None, None) => Ok(Path::root(alloc)),
     }
-    Ok(sources)
 }
 
-// Notes the place of a source, if it has none yet.
-fn note_source(sources: &mut BTreeMap<Path, usize>, source: &Path, at: usize) -> Result<(), Memory>
-    ensures { OnOk result ((p : Names) → get path_cmp sources.new p ≡ option_or (get path_cmp sources.old p) (place_if (is_same_path source.now p) at)) }
+/// Whether the new path is outside the directory of the source, or the row is a creation.
+pub fn is_far(row: &Row) -> bool
+    ensures { result ≡ is_far_row row.now }
 {
-    if sources.get(source).is_none() {
-        sources.insert(source.copy()?, at)?;
+    match (&row.source, &row.to) {
+        (_, None) => false,
+        (None, Some(_)) => true,
+        (Some(source), Some(to)) => !is_in_same_dir(source, to),
+    }
+}
+
+// The names of a path without its last one.
+fn dir_names(path: &Path) -> &[Name]
+    ensures { result.now ≡ parent path.now }
+{
+    match path.names() {
+        [] => &[],
+        [dir @ .., _] => dir,
+    }
+}
+
+// Whether two paths are in the same directory.
+fn is_in_same_dir(a: &Path, b: &Path) -> bool
+    ensures { result ≡ is_same_path (parent a.now) (parent b.now) }
+{
+    dir_names(a).cmp(dir_names(b)).is_eq()
+}
+
+// What a source becomes by its new path.
+fn turn(source: &Path, to: &Option<Path>) -> Result<Turn, Memory>
+    requires { to.now ≢ Some [] }
+    ensures { IfOk result (λ t. t ≡ turn_to source.now to.now) }
+{
+    let Some(to) = to else {
+        return Ok(Turn::Stays);
+    };
+    match to.names() {
+        [.., name] if is_in_same_dir(source, to) => Ok(Turn::Named(name.copy()?)),
+        _ => Ok(Turn::Sent(to.copy()?)),
+    }
+}
+
+// What becomes of each source.
+fn turns_of(alloc: Global, rows: &[Row]) -> Result<BTreeMap<Path, Turn>, Memory>
+    requires { All IsNoRoot rows.now }
+    ensures { IfOk result (λ m. AreTurns m rows.now) }
+{
+    let mut turns = BTreeMap::new(alloc);
+    for row in rows {
+        note_turn(&mut turns, row)?;
+    }
+    Ok(turns)
+}
+
+// Notes what becomes of a row's source, if nothing has been noted of it.
+fn note_turn(turns: &mut BTreeMap<Path, Turn>, row: &Row) -> Result<(), Memory>
+    requires { IsNoRoot row.now }
+    ensures { OnOk result ((p : Names) → get path_cmp turns.new p ≡ option_or (get path_cmp turns.old p) (if is_at p row.now.source then Some (turn_to p row.now.to) else None)) }
+{
+    if let Some(source) = &row.source {
+        if !turns.contains_key(source) {
+            turns.insert(source.copy()?, turn(source, &row.to)?)?;
+        }
     }
     Ok(())
 }
@@ -57,9 +109,7 @@ fn writers_of(alloc: Global, rows: &[Row]) -> Result<PathClaims, Memory>
 {
     let mut writers = PathClaims::new(alloc);
     for row in rows {
-        if let Some(path) = written(row) {
-            writers.note(path, row.line, row.line)?;
-        }
+        writers.note(written(alloc, row)?, row.line)?;
     }
     Ok(writers)
 }
@@ -70,9 +120,35 @@ fn movers_of(alloc: Global, rows: &[Row]) -> Result<PathClaims, Memory>
 {
     let mut movers = PathClaims::new(alloc);
     for row in rows {
-        if let (Some(source), true) = (&row.source, row.to.is_some()) {
-            movers.note(source, row.line, row.line)?;
+        if let (Some(source), Some(_)) = (&row.source, &row.to) {
+            movers.note(source.copy()?, row.line)?;
         }
     }
     Ok(movers)
+}
+
+impl Table {
+    /// The table of these rows.
+    pub fn new(alloc: Global, rows: Vec<Row>) -> Result<Self, Memory>
+        requires { All IsNoRoot rows.items }
+        ensures rows { IfOk result (λ t. t.rows.items ≡ rows.items) }
+        ensures turns { IfOk result (λ t. AreTurns t.turns rows.items) }
+        ensures writers { IfOk result (λ t. AreWriters t.writers.claims rows.items) }
+        ensures movers { IfOk result (λ t. AreMovers t.movers.claims rows.items) }
+    {
+        Ok(Table {
+            turns: turns_of(alloc, &rows)?,
+            writers: writers_of(alloc, &rows)?,
+            movers: movers_of(alloc, &rows)?,
+            rows,
+        })
+    }
+
+    /// Whether the path is the source of a change.
+    pub fn is_source(&self, path: &Path) -> bool
+        requires { AreTurns self.now.turns self.now.rows.items }
+        ensures { result ≡ is_source self.now.rows.items path.now }
+    {
+        self.turns.contains_key(path)
+    }
 }

@@ -1,0 +1,27 @@
+-- What is found of changes by their paths.
+use Rattle.std.specs.Prelude.{◌≡◌, ℕ, Bool, false, List, Option, Some, None}
+use Rattle.std.specs.Option.{option_map}
+use Rattle.std.specs.BTreeMap.{BTreeMap, get}
+use Rattle.dired_text.specs.Paths.{Names, path_cmp}
+use Rattle.edit_check.specs.declared.row.Row.{Row}
+use Rattle.edit_check.specs.declared.row.Turn.{Turn}
+use Rattle.edit_check.specs.declared.claims.Claim.{Claim}
+use Rattle.edit_check.specs.Rows.{is_same_path, row_from, turn_to, written}
+use Rattle.edit_check.specs.Claims.{claims_behind}
+
+-- what becomes of each source
+abbrev pub AreTurns : BTreeMap Names Turn → List Row → Type 0
+AreTurns turns rs = (p : Names) → get path_cmp turns p ≡ option_map (λ (r : Row). turn_to p r.to) (row_from rs p)
+
+-- the lines that write each path
+abbrev pub AreWriters : BTreeMap Names Claim → List Row → Type 0
+AreWriters claims rs = (p : Names) → get path_cmp claims p ≡ claims_behind (λ (o : Row). is_same_path (written o) p) (λ (o : Row). o.line) None rs
+
+abbrev pub is_moved_by : Names → Option Names → Option Names → Bool
+is_moved_by p None to = false
+is_moved_by p (Some source) None = false
+is_moved_by p (Some source) (Some to) = is_same_path source p
+
+-- the lines that give each source a new path
+abbrev pub AreMovers : BTreeMap Names Claim → List Row → Type 0
+AreMovers claims rs = (p : Names) → get path_cmp claims p ≡ claims_behind (λ (o : Row). is_moved_by p o.source o.to) (λ (o : Row). o.line) None rs
