@@ -2,13 +2,13 @@
 use Rattle.std.proofs.Common.{◌≡◌, ◌⊎◌, inl, inr, ◌↔◌, ℕ, ◌<◌, Bool, true, false, cond, List, [], ◌∷◌, ◌++◌, map, length, refl, sym, ◌∙◌, ap, subst, arith, Option, Some, None, Contains, Decides, option_map, if◌then◌else◌}
 use Rattle.std.specs.List.{find}
 use Rattle.std.specs.Option.{option_or}
-use Rattle.std.proofs.lemmas.Bool.{cond-true, cond-false, cases_Bool, both_ways, false_from_ne_true}
+use Rattle.std.proofs.lemmas.Bool.{cond-true, cond-false, cases_Bool, both_ways, false≢true, false_from_ne_true}
 use Rattle.std.proofs.lemmas.Option.{none-some, same_Some}
 use Rattle.std.proofs.lemmas.List.Elements.{Contains-append_right, Contains-append_left, Contains-push, Contains-append_cases, Contains-push_cases}
 use Rattle.edit_check.specs.declared.row.Row.{Row}
 use Rattle.edit_check.specs.declared.fault.CheckFault.{CheckFault}
 use Rattle.edit_check.specs.Rows.{line_where}
-use Rattle.edit_check.specs.Refusals.{first_fault, fault_if, then_at}
+use Rattle.edit_check.specs.Refusals.{first_fault, then_at}
 
 -- ---- elements of a list
 
@@ -58,9 +58,13 @@ pub then_none : {A B : Type 0} (o : Option A) (f : A → Option B) → (then_at 
 then_none None f = (λ e x is. absurd (none-some x is), λ all. refl)
 then_none (Some y) f = (λ e x is. ap f (sym (same_Some y x is)) ∙ e, λ all. all y refl)
 
-pub if_none : {P : Type 0} (b : Bool) (fault : CheckFault) → Decides b P → (fault_if b fault ≡ None) ↔ (P → ⊥)
-if_none true fault d = (λ e p. none-some fault (sym e), λ no. absurd (no (d.0 refl)))
-if_none false fault d = (λ e p. both_ways false refl (d.1 p), λ no. refl)
+pub if_none : {A P : Type 0} (b : Bool) (x : A) → Decides b P → (cond b (Some x) None ≡ None) ↔ (P → ⊥)
+if_none true x d = (λ e p. none-some x (sym e), λ never. absurd (never (d.0 refl)))
+if_none false x d = (λ e p. both_ways false refl (d.1 p), λ never. refl)
+
+pub unless_none : {A : Type 0} (b : Bool) (o : Option A) → (cond b o None ≡ None) ↔ (b ≡ true → o ≡ None)
+unless_none true o = (λ e t. e, λ rest. rest refl)
+unless_none false o = (λ e t. absurd (false≢true t), λ rest. refl)
 
 pub find_none : {X : Type 0} (test : X → Bool) (xs : List X) → (find test xs ≡ None) ↔ ((x : X) → Contains xs x → test x ≡ false)
 find_none test [] = (λ e x c. absurd (contains_none x c), λ all. refl)

@@ -1,3 +1,5 @@
 pub mod FindLemmas
 pub mod AboveLemmas
 pub mod RefusalLemmas
+pub mod WellFormedLemmas
+pub mod FirstLemmas

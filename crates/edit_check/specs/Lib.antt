@@ -5,3 +5,4 @@ pub mod Refusals
 pub mod WellFormed
 pub mod Edited
 pub mod Counting
+pub mod Laws
