@@ -1,5 +1,5 @@
 -- Paths above a path, as a test and as a list.
-use Rattle.std.proofs.Common.{◌≡◌, inl, inr, ◌↔◌, ℕ, Bool, true, false, List, [], ◌∷◌, ◌++◌, map, refl, sym, ◌∙◌, ap, subst, Option, Some, None, Contains, Decides}
+use Rattle.std.proofs.Common.{◌≡◌, inl, inr, ◌↔◌, ℕ, true, List, [], ◌∷◌, ◌++◌, map, refl, ◌∙◌, ap, subst, Option, Some, None, Contains, Decides}
 use Rattle.std.proofs.lemmas.Bool.{false≢true}
 use Rattle.dired_text.specs.Paths.{Names, rest_below}
 use Rattle.dired_text.proofs.PathLemmas.{rest_below-append, rest_below-some}
@@ -36,4 +36,4 @@ fronts_above w u = (listed w u, above w u)
         let first : n ≡ x = cc in
         let rest : p ≡ u ++ a.0 ∷ a.1 = cc in
         contains_tail [] (x ∷ u) (map (λ (q : Names). n ∷ q) (fronts p))
-          (subst (λ (y : List ℕ). Contains (map (λ (q : Names). n ∷ q) (fronts p)) (y ∷ u)) first (contains_map (λ (q : Names). n ∷ q) u (fronts p) (above p u (a.0, a.1, rest))))
+        (subst (λ (y : List ℕ). Contains (map (λ (q : Names). n ∷ q) (fronts p)) (y ∷ u)) first (contains_map (λ (q : Names). n ∷ q) u (fronts p) (above p u (a.0, a.1, rest))))

@@ -1,5 +1,5 @@
 -- What it means that nothing is found.
-use Rattle.std.proofs.Common.{◌≡◌, ◌⊎◌, inl, inr, ◌↔◌, ℕ, ◌<◌, Bool, true, false, cond, List, [], ◌∷◌, ◌++◌, map, length, refl, sym, ◌∙◌, ap, subst, arith, Option, Some, None, Contains, Decides, option_map, if◌then◌else◌}
+use Rattle.std.proofs.Common.{◌≡◌, ◌⊎◌, inl, inr, ◌↔◌, ℕ, ◌<◌, Bool, true, false, cond, List, [], ◌∷◌, map, refl, sym, ◌∙◌, ap, subst, arith, Option, Some, None, Contains, Decides, option_map}
 use Rattle.std.specs.List.{find}
 use Rattle.std.specs.Option.{option_or}
 use Rattle.std.proofs.lemmas.Bool.{cond-true, cond-false, cases_Bool, both_ways, false≢true, false_from_ne_true}
@@ -83,11 +83,11 @@ pub fault_none : (rule : Row → Option CheckFault) (rs : List Row) → (first_f
 fault_none rule [] = (λ e r c. absurd (contains_none r c), λ all. refl)
 fault_none rule (o ∷ rs) = (
   λ e r c.
-    let parts = (or_none (rule o) (first_fault rule rs)).0 e in
-    elim (contains_cases o r rs c) [
-      | inl same ↦ ap rule (sym same) ∙ parts.0
-      | inr later ↦ (fault_none rule rs).0 parts.1 r later
-    ],
+      let parts = (or_none (rule o) (first_fault rule rs)).0 e in
+      elim (contains_cases o r rs c) [
+        | inl same ↦ ap rule (sym same) ∙ parts.0
+        | inr later ↦ (fault_none rule rs).0 parts.1 r later
+      ],
   λ all. (or_none (rule o) (first_fault rule rs)).1 (all o (contains_head o rs), (fault_none rule rs).1 (λ r later. all r (contains_tail o r rs later))),
 )
 

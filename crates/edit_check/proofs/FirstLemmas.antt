@@ -1,10 +1,9 @@
 -- What is found is the first, and of the least line where lines rise.
-use Rattle.std.proofs.Common.{◌≡◌, ◌⊎◌, inl, inr, ◌↔◌, ℕ, suc, ◌+◌, ◌<◌, Bool, true, false, List, [], ◌∷◌, ◌++◌, length, refl, sym, ◌∙◌, ap, subst, arith, Option, Some, None, Contains, option_map}
+use Rattle.std.proofs.Common.{◌≡◌, ◌⊎◌, inl, inr, ℕ, suc, ◌<◌, Bool, true, false, List, [], ◌∷◌, ◌++◌, length, refl, sym, ◌∙◌, ap, subst, arith, Option, Some, None, Contains, option_map}
 use Rattle.std.specs.List.{find}
 use Rattle.std.specs.Option.{option_or}
 use Rattle.std.proofs.lemmas.Bool.{cond-true, cond-false, cases_Bool, cases_order, both_ways}
 use Rattle.std.proofs.lemmas.Option.{none-some, same_Some}
-use Rattle.std.proofs.lemmas.List.Elements.{Contains-append_right}
 use Rattle.edit_check.specs.declared.row.Row.{Row}
 use Rattle.edit_check.specs.declared.fault.CheckFault.{CheckFault}
 use Rattle.edit_check.specs.Rows.{line_where}
@@ -63,7 +62,8 @@ first_of_some rule (r ∷ rs) fault e = by_rule (rule r) refl (first_of_some rul
           ];
         }
 
-some_at : (rule : Row → Option CheckFault) (front back : List Row) (r : Row) (fault : CheckFault) → rule r ≡ Some fault → ((o : Row) → Contains front o → rule o ≡ None) → first_fault rule (front ++ r ∷ back) ≡ Some fault
+some_at : (rule : Row → Option CheckFault) (front back : List Row) (r : Row) (fault : CheckFault) → rule r ≡ Some fault → ((o : Row) → Contains front o → rule o ≡ None)
+    → first_fault rule (front ++ r ∷ back) ≡ Some fault
 some_at rule [] back r fault faulty before = ap (λ (o : Option CheckFault). option_or o (first_fault rule back)) faulty
 some_at rule (x ∷ front) back r fault faulty before =
     ap (λ (o : Option CheckFault). option_or o (first_fault rule (front ++ r ∷ back))) (before x (contains_head x front))

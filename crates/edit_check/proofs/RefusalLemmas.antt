@@ -1,10 +1,10 @@
 -- Each fault of a row, as a statement on the tree.
-use Rattle.std.proofs.Common.{◌≡◌, ◌≢◌, ◌⊎◌, inl, inr, ◌↔◌, ℕ, ◌<◌, ◌≤◌, ◌==◌, nat_lt, Bool, true, false, cond, not, ◌&&◌, ◌||◌, List, [], ◌∷◌, ◌++◌, refl, sym, ◌∙◌, ap, subst, arith, Option, Some, None, Contains, Decides, option_map, is_some, IsTrue}
+use Rattle.std.proofs.Common.{◌≡◌, ◌⊎◌, inl, inr, ◌↔◌, ℕ, ◌<◌, ◌≤◌, ◌==◌, true, false, not, ◌&&◌, ◌||◌, List, refl, sym, ◌∙◌, ap, subst, arith, Option, Some, None, Contains, Decides, option_map, is_some, IsTrue}
 use Rattle.std.specs.FinMap.{get}
 use Rattle.std.specs.List.{find}
 use Rattle.std.specs.Str.{bytes_eq}
-use Rattle.std.proofs.lemmas.Bool.{false≢true, cases_Bool, cases_eq, cases_lt, both_ways, and_parts, and_from, false_from_ne_true, true_from_ne_false, not-true, not_from_false}
-use Rattle.std.proofs.lemmas.Bool.Decides.{Decides-eqb, Decides-ltb, Decides-and, Decides-or, Decides-not, Decides-like, Decides-at}
+use Rattle.std.proofs.lemmas.Bool.{false≢true, cases_Bool, cases_eq, cases_lt, both_ways, false_from_ne_true, true_from_ne_false}
+use Rattle.std.proofs.lemmas.Bool.Decides.{Decides-eqb, Decides-ltb, Decides-and, Decides-or, Decides-not, Decides-like}
 use Rattle.std.proofs.lemmas.Option.{none-some, same_Some}
 use Rattle.std.proofs.lemmas.Slice.Eq.{bytes_eq-Decides}
 use Rattle.dired_text.specs.Paths.{Names, is_below, path_bytes, max_path_bytes}
@@ -18,11 +18,11 @@ use Rattle.tree_core.specs.FileTree.{FileTree, IsDir, Stands, is_dir_node}
 use Rattle.edit_check.specs.declared.row.Row.{Row}
 use Rattle.edit_check.specs.declared.fault.CheckFault.TheVariants.{Stale, Reserved, TwoToOne, ModeClash, ParentNotDirectory, MovedParent, ParentTaken, PathTooLong}
 use Rattle.edit_check.specs.Place.{place, IsAbove, is_above, fronts}
-use Rattle.edit_check.specs.Rows.{is_same_path, written, is_far, turn_of}
+use Rattle.edit_check.specs.Rows.{is_same_path, written, turn_of}
 use Rattle.edit_check.specs.Sight.{sight_of, seen, is_dir, is_other, number_of, number_at}
-use Rattle.edit_check.specs.Refusals.{staging, is_dir_shown, is_link_shown, is_file_shown, is_as_shown, is_stale_at, stale, is_staged_at, reserved, two_to_one, are_same, differ, mode_clash, parent_not_directory, is_mover_above, moved_parent, parent_taken, is_too_long_at, path_too_long, parents, across}
+use Rattle.edit_check.specs.Refusals.{staging, is_dir_shown, is_link_shown, is_file_shown, is_as_shown, is_stale_at, stale, is_staged_at, reserved, two_to_one, are_same, differ, mode_clash, parent_not_directory, is_mover_above, moved_parent, parent_taken, is_too_long_at, path_too_long}
 use Rattle.edit_check.specs.WellFormed.{ShowsNode, IsFresh, IsStagedAt, HasNumber, IsMover}
-use Rattle.edit_check.proofs.FindLemmas.{or_none, map_none, if_none, find_none, no_clash}
+use Rattle.edit_check.proofs.FindLemmas.{map_none, if_none, find_none, no_clash}
 use Rattle.edit_check.proofs.AboveLemmas.{above_decides, fronts_above}
 
 -- ---- what is seen of a tree

@@ -1,11 +1,11 @@
 -- Changes of which no fault is found are well formed, and the other way round.
-use Rattle.std.proofs.Common.{◌≡◌, ◌⊎◌, inl, inr, ◌↔◌, ℕ, ◌<◌, ◌≤◌, nat_lt, Bool, true, false, cond, not, ◌&&◌, List, [], ◌∷◌, ◌++◌, refl, sym, ◌∙◌, ap, subst, arith, Option, Some, None, Contains, Decides, option_map, is_some, IsTrue}
+use Rattle.std.proofs.Common.{◌≡◌, inl, inr, ◌↔◌, ℕ, ◌≤◌, nat_lt, Bool, true, false, cond, not, ◌&&◌, List, [], ◌∷◌, ◌++◌, refl, sym, ◌∙◌, ap, subst, Option, Some, None, Contains, Decides, option_map, is_some}
 use Rattle.std.specs.FinMap.{get}
 use Rattle.std.specs.Option.{option_or}
-use Rattle.std.proofs.lemmas.Bool.{false≢true, cases_Bool, both_ways, cond-true, cond-false, ltb-false, le-ltb, and_parts, and_from, not-true, not_from_false}
+use Rattle.std.proofs.lemmas.Bool.{false≢true, cases_Bool, cond-true, cond-false, ltb-false, le-ltb, and_parts, and_from, not-true, not_from_false}
 use Rattle.std.proofs.lemmas.Bool.Decides.{Decides-and, Decides-not}
 use Rattle.std.proofs.lemmas.Option.{none-some, same_Some, cond_some}
-use Rattle.dired_text.specs.Paths.{Names, path_bytes, max_path_bytes}
+use Rattle.dired_text.specs.Paths.{Names}
 use Rattle.tree_core.specs.declared.changes.Confirmed.{Confirmed}
 use Rattle.tree_core.specs.FileTree.{FileTree, IsTree, IsAbsent, IsDir, IsEmptyAt, Stands}
 use Rattle.tree_core.specs.Fields.{names_in}
@@ -16,9 +16,9 @@ use Rattle.edit_check.specs.declared.fault.CheckFault.{CheckFault}
 use Rattle.edit_check.specs.declared.fault.CheckFault.TheVariants.{Pending, TargetIsDirectory, NotEmpty, Unconfirmed, PathBytes}
 use Rattle.edit_check.specs.Place.{IsAbove}
 use Rattle.edit_check.specs.Rows.{is_source, written, is_far}
-use Rattle.edit_check.specs.Sight.{Sight, sight_of, seen, is_dir, is_none_in}
-use Rattle.edit_check.specs.Refusals.{staging, first_fault, stale, reserved, two_to_one, mode_clash, parents, parent_not_directory, moved_parent, parent_taken, path_too_long, across, victim_at, victim_of, if_dir, directory_replaced, if_full, not_empty, is_confirmed, if_unconfirmed, unconfirmed, changed_bytes, max_changed_bytes, too_many_bytes, then_at, ill_formed, refusal}
-use Rattle.edit_check.specs.WellFormed.{IsMover, IsVictimOf, IsWellFormed, AreConfirmed, CanBeMade}
+use Rattle.edit_check.specs.Sight.{Sight, sight_of, is_dir, is_none_in}
+use Rattle.edit_check.specs.Refusals.{staging, first_fault, stale, reserved, two_to_one, mode_clash, parents, parent_not_directory, moved_parent, parent_taken, path_too_long, across, victim_at, victim_of, if_dir, directory_replaced, if_full, not_empty, is_confirmed, if_unconfirmed, unconfirmed, changed_bytes, max_changed_bytes, too_many_bytes, then_at, ill_formed}
+use Rattle.edit_check.specs.WellFormed.{IsMover, IsVictimOf, IsWellFormed}
 use Rattle.edit_check.specs.Laws.{WellFormedAlone, TakenAlone}
 use Rattle.edit_check.proofs.FindLemmas.{or_none, map_none, then_none, if_none, unless_none, fault_none}
 use Rattle.edit_check.proofs.RefusalLemmas.{stands_decides, dir_decides, fresh_row, unreserved_row, to_one_row, modes_row, directories_row, unmoved_row, untaken_row, short_row}
@@ -33,9 +33,9 @@ AreAbove t rs r = ((u : Names) → IsAbove u (written r) → Stands t u → IsDi
 parents_row : (t : FileTree) (rs : List Row) (r : Row) → (parents (sight_of t) rs r ≡ None) ↔ (is_far r ≡ true → AreAbove t rs r)
 parents_row t rs r = (
   λ e far.
-    let parts = first.0 (far_only.0 e far) in
-    let later = second.0 parts.1 in
-    ((directories_row t r).0 parts.0, (unmoved_row rs r).0 later.0, (untaken_row t rs r).0 later.1),
+      let parts = first.0 (far_only.0 e far) in
+      let later = second.0 parts.1 in
+      ((directories_row t r).0 parts.0, (unmoved_row rs r).0 later.0, (untaken_row t rs r).0 later.1),
   λ all. far_only.1 (λ far. let h = all far in first.1 ((directories_row t r).1 h.0, second.1 ((unmoved_row rs r).1 h.1, (untaken_row t rs r).1 h.2))),
 )
   where
@@ -60,11 +60,11 @@ record AcrossNone (sight : Sight) (rs : List Row) (r : Row) : Type 0 where
 across_none : (sight : Sight) (rs : List Row) (r : Row) → (across sight rs r ≡ None) ↔ AcrossNone sight rs r
 across_none sight rs r = (
   λ e.
-    let a = (or_none (reserved r) _).0 e in
-    let b = (or_none (two_to_one rs r) _).0 a.1 in
-    let c = (or_none (mode_clash sight rs r) _).0 b.1 in
-    let d = (or_none (parents sight rs r) (path_too_long rs r)).0 c.1 in
-    record { reserved = a.0; two = b.0; modes = c.0; parents = d.0; long = d.1 },
+      let a = (or_none (reserved r) _).0 e in
+      let b = (or_none (two_to_one rs r) _).0 a.1 in
+      let c = (or_none (mode_clash sight rs r) _).0 b.1 in
+      let d = (or_none (parents sight rs r) (path_too_long rs r)).0 c.1 in
+      record { reserved = a.0; two = b.0; modes = c.0; parents = d.0; long = d.1 },
   λ h. (or_none (reserved r) _).1 (h.reserved, (or_none (two_to_one rs r) _).1 (h.two, (or_none (mode_clash sight rs r) _).1 (h.modes, (or_none (parents sight rs r) (path_too_long rs r)).1 (h.parents, h.long)))),
 )
 
@@ -74,14 +74,19 @@ victim_is : (t : FileTree) (rs : List Row) (to : Option Names) (p : Names) → (
 victim_is t rs None p = (λ e. absurd (none-some p e), λ h. absurd (none-some p h.0))
 victim_is t rs (Some q) p = (
   λ e.
-    let found = cond_some (is_some ((sight_of t).at q) && not (is_source rs q)) q p e in
-    let parts = and_parts (is_some ((sight_of t).at q)) (not (is_source rs q)) found.0 in
-    (ap (λ (w : Names). Some w) found.1, subst (Stands t) found.1 ((stands_decides t q).0 parts.0), subst (λ (w : Names). is_source rs w ≡ false) found.1 (not-true (is_source rs q) parts.1)),
+      let found = cond_some (is_some ((sight_of t).at q) && not (is_source rs q)) q p e in
+      let parts = and_parts (is_some ((sight_of t).at q)) (not (is_source rs q)) found.0 in (
+        ap (λ (w : Names). Some w) found.1,
+        subst (Stands t) found.1 ((stands_decides t q).0 parts.0),
+        subst (λ (w : Names). is_source rs w ≡ false) found.1 (not-true (is_source rs q) parts.1),
+      ),
   λ h.
-    let same : q ≡ p = same_Some q p h.0 in
-    cond-true (is_some ((sight_of t).at q) && not (is_source rs q)) (Some q) None
-      (and_from (is_some ((sight_of t).at q)) (not (is_source rs q)) ((stands_decides t q).1 (subst (Stands t) (sym same) h.1)) (not_from_false (is_source rs q) (subst (λ (w : Names). is_source rs w ≡ false) (sym same) h.2)))
-    ∙ h.0,
+      let same : q ≡ p = same_Some q p h.0 in
+      cond-true (is_some ((sight_of t).at q) && not (is_source rs q)) (Some q) None
+      (and_from (is_some ((sight_of t).at q)) (not (is_source rs q))
+      ((stands_decides t q).1 (subst (Stands t) (sym same) h.1))
+      (not_from_false (is_source rs q) (subst (λ (w : Names). is_source rs w ≡ false) (sym same) h.2)))
+      ∙ h.0,
 )
 
 -- a rule on victims
@@ -134,9 +139,9 @@ removable_row t tree r = (
     rule : (not_empty (sight_of t) r ≡ None) ↔ (r.removes ≡ true → (p : Names) → r.source ≡ Some p → if_full (sight_of t) p ≡ None)
     rule = (
       λ e removes. (then_none r.source (if_full (sight_of t))).0 ((map_none (NotEmpty r.line) (then_at r.source (if_full (sight_of t)))).0
-        ((unless_none r.removes (option_map (NotEmpty r.line) (then_at r.source (if_full (sight_of t))))).0 e removes)),
+          ((unless_none r.removes (option_map (NotEmpty r.line) (then_at r.source (if_full (sight_of t))))).0 e removes)),
       λ all. (unless_none r.removes (option_map (NotEmpty r.line) (then_at r.source (if_full (sight_of t))))).1 (λ removes.
-        (map_none (NotEmpty r.line) (then_at r.source (if_full (sight_of t)))).1 ((then_none r.source (if_full (sight_of t))).1 (all removes))),
+          (map_none (NotEmpty r.line) (then_at r.source (if_full (sight_of t)))).1 ((then_none r.source (if_full (sight_of t))).1 (all removes))),
     )
 
 -- ---- the whole
@@ -157,16 +162,22 @@ record NoneFound (t : FileTree) (rs : List Row) : Type 0 where
 ill_none : (t : FileTree) (rs : List Row) → (ill_formed (sight_of t) rs ≡ None) ↔ NoneFound t rs
 ill_none t rs = (
   λ e.
-    let a = (or_none (cond (is_some ((sight_of t).at staging)) (Some Pending) None) _).0 e in
-    let b = (or_none (first_fault (stale (sight_of t)) rs) _).0 a.1 in
-    let c = (or_none (first_fault (across (sight_of t) rs) rs) _).0 b.1 in
-    let d = (or_none (first_fault (directory_replaced (sight_of t) rs) rs) (first_fault (not_empty (sight_of t)) rs)).0 c.1 in
-    record { unstaged = (pending_none t).0 a.0; fresh = b.0; across = c.0; replaceable = d.0; removable = d.1 },
+      let a = (or_none (cond (is_some ((sight_of t).at staging)) (Some Pending) None) _).0 e in
+      let b = (or_none (first_fault (stale (sight_of t)) rs) _).0 a.1 in
+      let c = (or_none (first_fault (across (sight_of t) rs) rs) _).0 b.1 in
+      let d = (or_none (first_fault (directory_replaced (sight_of t) rs) rs) (first_fault (not_empty (sight_of t)) rs)).0 c.1 in
+      record { unstaged = (pending_none t).0 a.0; fresh = b.0; across = c.0; replaceable = d.0; removable = d.1 },
   λ h.
-    (or_none (cond (is_some ((sight_of t).at staging)) (Some Pending) None) _).1 ((pending_none t).1 h.unstaged,
-    (or_none (first_fault (stale (sight_of t)) rs) _).1 (h.fresh,
-    (or_none (first_fault (across (sight_of t) rs) rs) _).1 (h.across,
-    (or_none (first_fault (directory_replaced (sight_of t) rs) rs) (first_fault (not_empty (sight_of t)) rs)).1 (h.replaceable, h.removable)))),
+      (or_none (cond (is_some ((sight_of t).at staging)) (Some Pending) None) _).1 (
+        (pending_none t).1 h.unstaged,
+        (or_none (first_fault (stale (sight_of t)) rs) _).1 (
+          h.fresh,
+          (or_none (first_fault (across (sight_of t) rs) rs) _).1 (
+            h.across,
+            (or_none (first_fault (directory_replaced (sight_of t) rs) rs) (first_fault (not_empty (sight_of t)) rs)).1 (h.replaceable, h.removable),
+          ),
+        ),
+      ),
 )
 
 found_none : (t : FileTree) (rs : List Row) → IsTree t → NoneFound t rs → IsWellFormed t rs
@@ -227,16 +238,19 @@ fits_none bytes = (
 pub taken_alone : TakenAlone
 taken_alone t confirmed rs tree = (
   λ e.
-    let a = (or_none (ill_formed (sight_of t) rs) _).0 e in
-    let b = (or_none (first_fault (unconfirmed (sight_of t) confirmed rs) rs) (too_many_bytes (changed_bytes (sight_of t) rs))).0 a.1 in
-    record {
-      well_formed = (well_formed_alone t rs tree).0 a.0;
-      victims = λ r p listed victim. (confirmed_row t confirmed rs r).0 ((fault_none (unconfirmed (sight_of t) confirmed rs) rs).0 b.0 r listed) p victim;
-      fits = (fits_none (changed_bytes (sight_of t) rs)).0 b.1;
-    },
+      let a = (or_none (ill_formed (sight_of t) rs) _).0 e in
+      let b = (or_none (first_fault (unconfirmed (sight_of t) confirmed rs) rs) (too_many_bytes (changed_bytes (sight_of t) rs))).0 a.1 in
+      record {
+        well_formed = (well_formed_alone t rs tree).0 a.0;
+        victims = λ r p listed victim. (confirmed_row t confirmed rs r).0 ((fault_none (unconfirmed (sight_of t) confirmed rs) rs).0 b.0 r listed) p victim;
+        fits = (fits_none (changed_bytes (sight_of t) rs)).0 b.1;
+      },
   λ can.
-    (or_none (ill_formed (sight_of t) rs) _).1 ((well_formed_alone t rs tree).1 can.well_formed,
-    (or_none (first_fault (unconfirmed (sight_of t) confirmed rs) rs) (too_many_bytes (changed_bytes (sight_of t) rs))).1
-      ((fault_none (unconfirmed (sight_of t) confirmed rs) rs).1 (λ r listed. (confirmed_row t confirmed rs r).1 (λ p victim. can.victims r p listed victim)),
-      (fits_none (changed_bytes (sight_of t) rs)).1 can.fits)),
+      (or_none (ill_formed (sight_of t) rs) _).1 (
+        (well_formed_alone t rs tree).1 can.well_formed,
+        (or_none (first_fault (unconfirmed (sight_of t) confirmed rs) rs) (too_many_bytes (changed_bytes (sight_of t) rs))).1 (
+          (fault_none (unconfirmed (sight_of t) confirmed rs) rs).1 (λ r listed. (confirmed_row t confirmed rs r).1 (λ p victim. can.victims r p listed victim)),
+          (fits_none (changed_bytes (sight_of t) rs)).1 can.fits,
+        ),
+      ),
 )
