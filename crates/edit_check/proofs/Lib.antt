@@ -1,1 +1,6 @@
 pub mod FrontLemmas
+pub mod FindLemmas
+pub mod AboveLemmas
+pub mod RefusalLemmas
+pub mod WellFormedLemmas
+pub mod FirstLemmas

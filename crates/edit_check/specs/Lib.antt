@@ -7,3 +7,5 @@ pub mod Edited
 pub mod Counting
 pub mod Claims
 pub mod Tables
+pub mod Found
+pub mod Laws

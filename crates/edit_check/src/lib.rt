@@ -4,12 +4,18 @@
 mod claims;
 mod counts;
 mod fault;
+mod findings;
 mod fronts;
+mod laws;
 mod row;
 mod sight;
 mod table;
 
 pub use counts::Counts;
 pub use fault::CheckFault;
+pub use laws::{
+    taken_where_nothing_is_refused, the_first_line_is_the_least,
+    well_formed_where_no_fault_is_found,
+};
 pub use row::{Row, Turn, rows_of};
 pub use sight::Seen;
