@@ -22,7 +22,7 @@ front_is_short (suc k) (n ∷ p) = longer n _ _ (slashed_front k p)
 -- there are as many paths above a path as it has names,
 pub fronts_counted : (p : Names) → length (fronts p) ≡ length p
 fronts_counted [] = refl
-fronts_counted (n ∷ p) = let later : length (map (λ (q : Names). n ∷ q) (fronts p)) ≡ length p = length-map (fronts p) (λ (q : Names). n ∷ q) ∙ fronts_counted p in ap (λ k. k + 1) later
+fronts_counted (n ∷ p) = let later : length (map (λ (q : Names). n ∷ q) (fronts p)) ≡ length p = length-map (fronts p) (λ (q : Names). n ∷ q) ∙ fronts_counted p in ap (λ (k : ℕ). suc k) later
 
 -- and each has one name more than the one before
 stepped : (k : ℕ) (p : Names) → k < length p → take (suc k) (fronts p) ≡ take k (fronts p) ++ take k p ∷ []
