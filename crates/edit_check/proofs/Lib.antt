@@ -1,4 +1,5 @@
 pub mod FrontLemmas
+pub mod TableLemmas
 pub mod FindLemmas
 pub mod AboveLemmas
 pub mod RefusalLemmas

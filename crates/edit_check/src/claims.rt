@@ -77,7 +77,7 @@ impl PathClaims {
 
     /// Notes that a line claims a path. The lines come in their order.
     pub fn note(&mut self, path: Path, line: u32) -> Result<(), Memory>
-        ensures { OnOk result ((p : Names) → get path_cmp self.new.claims p ≡ cond (is_same_path path p) (Some (claimed_by line line (get path_cmp self.old.claims path))) (get path_cmp self.old.claims p)) }
+        ensures { OnOk result ((p : Names) → get path_cmp self.new.claims p ≡ cond (is_same_path path p) (Some (claimed_by line line (get path_cmp self.old.claims p))) (get path_cmp self.old.claims p)) }
     {
         let claim = claimed(self.claims.get(&path).copied(), line, line);
         self.claims.insert(path, claim)?;

@@ -5,7 +5,8 @@ ghost use Rattle.std.specs.BTreeMap.{get};
 ghost use Rattle.dired_text.specs.Paths.{Names, path_cmp, parent};
 ghost use Rattle.edit_check.specs.Place.{placed};
 ghost use Rattle.edit_check.specs.Rows.{is_at, is_far as is_far_row, is_same_path, is_source, turn_of, turn_to, written as written_path};
-ghost use Rattle.edit_check.specs.Tables.{AreTurns, AreWriters, AreMovers};
+ghost use Rattle.edit_check.specs.Claims.{claimed_by};
+ghost use Rattle.edit_check.specs.Tables.{AreTurns, AreWriters, AreMovers, is_moved_by};
 ghost use Rattle.edit_check.specs.WellFormed.{IsNoRoot};
 
 use crate::claims::PathClaims;
@@ -120,11 +121,19 @@ fn movers_of(alloc: Global, rows: &[Row]) -> Result<PathClaims, Memory>
 {
     let mut movers = PathClaims::new(alloc);
     for row in rows {
-        if let (Some(source), Some(_)) = (&row.source, &row.to) {
-            movers.note(source.copy()?, row.line)?;
-        }
+        note_mover(&mut movers, row)?;
     }
     Ok(movers)
+}
+
+// Notes the line of a row that gives its source a new path.
+fn note_mover(movers: &mut PathClaims, row: &Row) -> Result<(), Memory>
+    ensures { OnOk result ((p : Names) → get path_cmp movers.new.claims p ≡ (if is_moved_by p row.now.source row.now.to then Some (claimed_by row.now.line row.now.line (get path_cmp movers.old.claims p)) else get path_cmp movers.old.claims p)) }
+{
+    if let (Some(source), Some(_)) = (&row.source, &row.to) {
+        movers.note(source.copy()?, row.line)?;
+    }
+    Ok(())
 }
 
 impl Table {
