@@ -5,3 +5,4 @@ pub mod AboveLemmas
 pub mod RefusalLemmas
 pub mod WellFormedLemmas
 pub mod FirstLemmas
+pub mod ClaimLemmas

@@ -1,11 +1,15 @@
 -- What is found of changes by their paths.
-use Rattle.std.specs.Prelude.{◌≡◌, ℕ, Bool, false, List, Option, Some, None}
-use Rattle.std.specs.Option.{option_map}
+use Rattle.std.specs.Prelude.{◌≡◌, ℕ, Bool, false, ◌&&◌, List, Option, Some, None, is_some}
+use Rattle.std.specs.Option.{option_map, unwrap_or}
+use Rattle.std.specs.Ordering.{nat_cmp}
 use Rattle.std.specs.BTreeMap.{BTreeMap, get}
 use Rattle.dired_text.specs.Paths.{Names, path_cmp}
 use Rattle.edit_check.specs.declared.row.Row.{Row}
 use Rattle.edit_check.specs.declared.row.Turn.{Turn}
 use Rattle.edit_check.specs.declared.claims.Claim.{Claim}
+use Rattle.edit_check.specs.declared.table.Table.{Table}
+use Rattle.edit_check.specs.Sight.{Sight, number_at}
+use Rattle.edit_check.specs.Refusals.{are_same}
 use Rattle.edit_check.specs.Rows.{is_same_path, row_from, turn_to, written}
 use Rattle.edit_check.specs.Claims.{claims_behind}
 
@@ -25,3 +29,16 @@ is_moved_by p (Some source) (Some to) = is_same_path source p
 -- the lines that give each source a new path
 abbrev pub AreMovers : BTreeMap Names Claim → List Row → Type 0
 AreMovers claims rs = (p : Names) → get path_cmp claims p ≡ claims_behind (λ (o : Row). is_moved_by p o.source o.to) (λ (o : Row). o.line) None rs
+
+-- what a table finds is what its rows say
+pub record IsTable (table : Table) : Type 0 where
+  pub turns : AreTurns table.turns table.rows.items
+  pub writers : AreWriters table.writers.claims table.rows.items
+  pub movers : AreMovers table.movers.claims table.rows.items
+
+abbrev pub names_mode : Sight → ℕ → Row → Bool
+names_mode sight number o = are_same (Some number) (number_at sight o.source) && is_some o.mode
+
+-- the modes that lines name for each file
+abbrev pub AreFileModes : Sight → BTreeMap ℕ Claim → List Row → Type 0
+AreFileModes sight claims rs = (number : ℕ) → get nat_cmp claims number ≡ claims_behind (names_mode sight number) (λ (o : Row). unwrap_or o.mode 0) None rs

@@ -7,7 +7,9 @@ mod fault;
 mod findings;
 mod fronts;
 mod laws;
+mod places;
 mod row;
+mod rules;
 mod sight;
 mod table;
 

@@ -3,10 +3,9 @@ ghost use Rattle.std.specs.Prelude.{◌≡◌, IfOk, OnOk, ◌≢◌, [], Some, 
 ghost use Rattle.std.specs.Option.{option_or};
 ghost use Rattle.std.specs.BTreeMap.{get};
 ghost use Rattle.dired_text.specs.Paths.{Names, path_cmp, parent};
-ghost use Rattle.edit_check.specs.Place.{placed};
 ghost use Rattle.edit_check.specs.Rows.{is_at, is_far as is_far_row, is_same_path, is_source, turn_of, turn_to, written as written_path};
 ghost use Rattle.edit_check.specs.Claims.{claimed_by};
-ghost use Rattle.edit_check.specs.Tables.{AreTurns, AreWriters, AreMovers, is_moved_by};
+ghost use Rattle.edit_check.specs.Tables.{AreTurns, AreWriters, AreMovers, IsTable, is_moved_by};
 ghost use Rattle.edit_check.specs.WellFormed.{IsNoRoot};
 
 use crate::claims::PathClaims;
@@ -141,9 +140,7 @@ impl Table {
     pub fn new(alloc: Global, rows: Vec<Row>) -> Result<Self, Memory>
         requires { All IsNoRoot rows.items }
         ensures rows { IfOk result (λ t. t.rows.items ≡ rows.items) }
-        ensures turns { IfOk result (λ t. AreTurns t.turns rows.items) }
-        ensures writers { IfOk result (λ t. AreWriters t.writers.claims rows.items) }
-        ensures movers { IfOk result (λ t. AreMovers t.movers.claims rows.items) }
+        ensures table { IfOk result IsTable }
     {
         Ok(Table {
             turns: turns_of(alloc, &rows)?,
@@ -155,7 +152,7 @@ impl Table {
 
     /// Whether the path is the source of a change.
     pub fn is_source(&self, path: &Path) -> bool
-        requires { AreTurns self.now.turns self.now.rows.items }
+        requires { IsTable self.now }
         ensures { result ≡ is_source self.now.rows.items path.now }
     {
         self.turns.contains_key(path)
