@@ -1,0 +1,6 @@
+mod ListLemmas
+mod PlaceLemmas
+mod PlacedLemmas
+mod PlacedIsTree
+mod RowLemmas
+mod AskedLemmas
