@@ -4,3 +4,5 @@ mod PlacedLemmas
 mod PlacedIsTree
 mod RowLemmas
 mod AskedLemmas
+mod AddedLemmas
+mod EditedLemmas

@@ -128,7 +128,7 @@ flat_parts f (x ∷ xs) y c = elim (Contains-append_cases (f x) (flat_map f xs) 
   | inr later ↦ let more = flat_parts f xs y later in (more.0, contains_tail x more.0 xs more.1, more.2)
 ]
 
--- the other of a pair of two lists
+-- the other of a pair
 pub zip_right : {X Y : Type 0} (R : X → Y → Type 0) (xs : List X) (ys : List Y) (y : Y) → AllZip R xs ys → Contains ys y → (x : X) × Contains xs x × R x y
 zip_right R [] [] y all c = absurd (contains_none y c)
 zip_right R [] (z ∷ ys) y all c = absurd all
@@ -144,3 +144,13 @@ zip_weaker R S [] [] weaker all = all
 zip_weaker R S [] (y ∷ ys) weaker all = all
 zip_weaker R S (x ∷ xs) [] weaker all = all
 zip_weaker R S (x ∷ xs) (y ∷ ys) weaker all = (weaker x y (contains_head x xs) all.0, zip_weaker R S xs ys (λ z v c r. weaker z v (contains_tail x z xs c) r) all.1)
+
+-- the other of a pair
+pub zip_left : {X Y : Type 0} (R : X → Y → Type 0) (xs : List X) (ys : List Y) (x : X) → AllZip R xs ys → Contains xs x → (y : Y) × Contains ys y × R x y
+zip_left R [] [] x all c = absurd (contains_none x c)
+zip_left R [] (y ∷ ys) x all c = absurd all
+zip_left R (z ∷ xs) [] x all c = absurd all
+zip_left R (z ∷ xs) (y ∷ ys) x all c = elim (contains_cases z x xs c) [
+  | inl same ↦ (y, contains_head y ys, subst (λ (z : _). R z y) same all.0)
+  | inr later ↦ let more = zip_left R xs ys x all.1 later in (more.0, contains_tail y more.0 ys more.1, more.2)
+]

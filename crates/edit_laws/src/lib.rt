@@ -3,4 +3,6 @@
 
 mod laws;
 
-pub use laws::places_are_apart;
+pub use laws::{
+    edited_tree_is_a_tree, edited_tree_is_the_one, paths_go_to_their_places, places_are_apart,
+};
