@@ -1,7 +1,7 @@
 -- What changes add to a tree: entries that are made, and missing directories.
-use Rattle.std.proofs.Common.{◌≡◌, ◌≢◌, ◌⊎◌, inl, inr, ⊎_elim, ℕ, ◌<◌, Bool, true, false, cond, not, ◌&&◌, ◌||◌, List, [], ◌∷◌, ◌++◌, map, filter, length, refl, sym, ◌∙◌, ap, subst, arith, suc, get_or, Option, Some, None, is_some, IsTrue, if◌then◌else◌}
+use Rattle.std.proofs.Common.{◌≡◌, ◌≢◌, ◌⊎◌, inl, inr, ℕ, ◌<◌, Bool, true, false, not, ◌||◌, List, [], ◌∷◌, ◌++◌, map, filter, length, refl, sym, ◌∙◌, ap, subst, arith, suc, get_or, Option, Some, None, is_some, if◌then◌else◌}
 use Rattle.std.specs.Prelude.{Contains}
-use Rattle.std.specs.List.{flat_map, zip, AllZip, AllPairs}
+use Rattle.std.specs.List.{zip, AllZip, AllPairs}
 use Rattle.std.specs.FinMap.{get, find}
 use Rattle.std.proofs.lemmas.Bool.{cond-true, cond-false, cases_Bool}
 use Rattle.std.proofs.lemmas.Option.{none-some, same_Some}
@@ -16,9 +16,9 @@ use Rattle.tree_core.proofs.TreeLemmas.{tie, tie-other, absent_not}
 use Rattle.edit_check.specs.declared.row.Row.{Row}
 use Rattle.edit_check.specs.Place.{place, IsAbove, fronts}
 use Rattle.edit_check.specs.Rows.{written, is_far, is_far_of, turn_of, is_kept}
-use Rattle.edit_check.specs.Edited.{Entries, missing, is_fresh, fresh_places, fresh_place_of, added_by}
+use Rattle.edit_check.specs.Edited.{missing, is_fresh, fresh_places, fresh_place_of, added_by}
 use Rattle.edit_check.specs.WellFormed.{IsWellFormed, LinesRise}
-use Rattle.edit_laws.proofs.ListLemmas.{contains_head, contains_tail, contains_none, contains_cases, contains_filter, filter_parts, contains_map, map_parts, contains_flat, flat_parts, zip_left, zip_weaker}
+use Rattle.edit_laws.proofs.ListLemmas.{contains_head, contains_tail, contains_none, contains_cases, contains_filter, filter_parts, contains_map, map_parts, contains_flat, flat_parts, zip_weaker}
 use Rattle.edit_laws.proofs.PlaceLemmas.{place-apart}
 use Rattle.edit_laws.proofs.PlacedLemmas.{find-append_some, find-append_none, tie_itself}
 use Rattle.edit_laws.proofs.PlacedIsTree.{Stayed}
@@ -64,8 +64,7 @@ zip_pair (p ∷ ps) [] u node e = absurd (none-some node e)
 zip_pair (p ∷ ps) (n ∷ ns) u node e = elim (cases_Bool (tie u p)) [
   | inl same ↦
       let is_p : p ≡ u = sym ((path_decides u p).0 same) in
-      let is_n : n ≡ node = same_Some n node (sym (cond-true (tie u p) (Some n) (find path_cmp u (zip ps ns)) same) ∙ e) in
-      (
+      let is_n : n ≡ node = same_Some n node (sym (cond-true (tie u p) (Some n) (find path_cmp u (zip ps ns)) same) ∙ e) in (
         subst (Contains (p ∷ ps)) is_p (contains_head p ps),
         subst (Contains (n ∷ ns)) is_n (contains_head n ns),
         subst (λ (x : Names). Contains (zip (p ∷ ps) (n ∷ ns)) (x, node)) is_p (subst (λ (x : Node). Contains (zip (p ∷ ps) (n ∷ ns)) (p, x)) is_n (contains_head (p, n) (zip ps ns))),
@@ -124,9 +123,6 @@ module _ (t : FileTree) (rs : List Row) where
   IsMadeAt q = (r : Row) × Contains rs r × MadeBy r q
 
 module _ (t : FileTree) (rs : List Row) (made : List Node) (tree : IsTree t) (fine : IsWellFormed t rs) (are : AreRows t rs) where
-  abbrev pub Stays_in : Names → Type 0
-  Stays_in p = Stayed (is_kept rs) t p
-
   made_by : (q : Names) (r : Row) → Contains rs r → is_fresh r ≡ true → fresh_place_of (place (turn_of rs)) r.source r ≡ q → MadeBy t rs r q
   made_by q r listed is at = by_source r.source refl
     where
@@ -184,12 +180,12 @@ module _ (t : FileTree) (rs : List Row) (made : List Node) (tree : IsTree t) (fi
       by_made None z = let d = dirs_only (missing t rs) q node (sym (find-append_none q (zip (fresh_places rs) made) (map as_dir (missing t rs)) z) ∙ e) in is_missing d.0 d.1
 
   -- nothing is added at the place of a path that stays and is no retargeted link
-  pub nothing_added : (p : Names) → Stays_in p → ((r : Row) → Contains rs r → r.retargets ≡ true → r.source ≡ Some p → ⊥) → find path_cmp (place (turn_of rs) p) (added_by t rs made) ≡ None
+  pub nothing_added : (p : Names) → Stayed (is_kept rs) t p → ((r : Row) → Contains rs r → r.retargets ≡ true → r.source ≡ Some p → ⊥) → find path_cmp (place (turn_of rs) p) (added_by t rs made) ≡ None
   nothing_added p stayed no_link = by_found (find path_cmp (place (turn_of rs) p) (added_by t rs made)) refl
     where
       no_fresh : IsMadeAt t rs (place (turn_of rs) p) → ⊥
       no_fresh (r, listed, retargeted s retargets source stayed_s at) =
-          no_link r listed retargets (source ∙ ap (λ (l : Names). Some l) (place-apart Stays_in (turn_of rs) (rows_apart t rs tree fine are) s p stayed_s stayed at))
+          no_link r listed retargets (source ∙ ap (λ (l : Names). Some l) (place-apart (Stayed (is_kept rs) t) (turn_of rs) (rows_apart t rs tree fine are) s p stayed_s stayed at))
       no_fresh (r, listed, created none far at) = none-some p (sym none ∙ far_source t rs tree fine are r p listed far stayed (sym at))
 
       none_here : (node : Node) → Added (place (turn_of rs) p) node → ⊥
@@ -206,7 +202,7 @@ module _ (t : FileTree) (rs : List Row) (made : List Node) (tree : IsTree t) (fi
   -- two rows that have something made at one path are one
   one_made : (r o : Row) (q : Names) → Contains rs r → Contains rs o → MadeBy t rs r q → MadeBy t rs o q → r ≡ o
   one_made r o q listed_r listed_o (retargeted s retargets source stayed at) (retargeted s' retargets' source' stayed' at') =
-      let same : s ≡ s' = place-apart Stays_in (turn_of rs) (rows_apart t rs tree fine are) s s' stayed stayed' (at ∙ sym at') in
+      let same : s ≡ s' = place-apart (Stayed (is_kept rs) t) (turn_of rs) (rows_apart t rs tree fine are) s s' stayed stayed' (at ∙ sym at') in
       are.sources r o s' listed_r listed_o (source ∙ ap (λ (l : Names). Some l) same) source'
   one_made r o q listed_r listed_o (retargeted s retargets source stayed at) (created none far at') =
       absurd (none-some s (sym none ∙ far_source t rs tree fine are o s listed_o far stayed (at ∙ sym at')))

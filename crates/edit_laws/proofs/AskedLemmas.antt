@@ -1,12 +1,11 @@
 -- What the rows of changes that can be asked for are like, and the entries that are made for them.
-use Rattle.std.proofs.Common.{◌≡◌, ◌≢◌, ◌⊎◌, inl, inr, ⊎_elim, ℕ, ◌+◌, ◌<◌, Bool, true, false, cond, not, ◌&&◌, ◌||◌, List, [], ◌∷◌, map, filter, length, refl, sym, ◌∙◌, ap, subst, arith, suc, Option, Some, None, is_some, IsTrue, if◌then◌else◌}
-use Rattle.std.specs.Prelude.{Contains, unwrap_or, All}
-use Rattle.std.specs.List.{AllZip, AllPairs, filter_map, cons_option}
+use Rattle.std.proofs.Common.{◌≡◌, ◌⊎◌, inl, inr, ℕ, ◌<◌, true, false, cond, ◌&&◌, ◌||◌, List, [], ◌∷◌, map, filter, length, refl, sym, ◌∙◌, ap, subst, arith, suc, Option, Some, None, is_some, IsTrue}
+use Rattle.std.specs.Prelude.{Contains, unwrap_or}
+use Rattle.std.specs.List.{filter_map, cons_option}
 use Rattle.std.specs.Option.{option_map}
 use Rattle.std.specs.FinMap.{get}
 use Rattle.std.proofs.lemmas.Bool.{cond-false}
 use Rattle.std.proofs.lemmas.Option.{none-some, same_Some}
-use Rattle.std.proofs.lemmas.List.{length-map}
 use Rattle.std.proofs.lemmas.List.Elements.{All-contains}
 use Rattle.std.proofs.lemmas.Slice.Zip.{AllZip-long}
 use Rattle.dired_text.specs.Paths.{Names}
@@ -21,13 +20,12 @@ use Rattle.tree_core.specs.declared.changes.Fresh.{Fresh}
 use Rattle.tree_core.specs.declared.changes.Fresh.TheVariants as asks
 use Rattle.tree_core.specs.declared.changes.Changes.{Changes}
 use Rattle.tree_core.specs.declared.changes.Changes.TheVariants.{Edits, Removals, Creations}
-use Rattle.tree_core.specs.FileTree.{FileTree, IsTree, IsDir, IsFile, IsMode, IsTarget, IsLawful, Stands, is_dir_node}
+use Rattle.tree_core.specs.FileTree.{FileTree, IsTree, IsDir, IsFile, IsMode, IsLawful, Stands, is_dir_node}
 use Rattle.edit_check.specs.declared.row.Row.{Row}
-use Rattle.edit_check.specs.Place.{place}
-use Rattle.edit_check.specs.Rows.{rows, edit_row, removal_row, creation_row, is_far, is_far_of, turn_of}
-use Rattle.edit_check.specs.Edited.{is_fresh, fresh_places, fresh_place_of, asked_fresh, HasFileNumber, IsMadeFor, HasOtherNumber, AreMadeFor, mode_named, is_number, number_at}
+use Rattle.edit_check.specs.Rows.{rows, edit_row, removal_row, creation_row, is_far}
+use Rattle.edit_check.specs.Edited.{is_fresh, asked_fresh, HasFileNumber, IsMadeFor, HasOtherNumber, AreMadeFor, mode_named, is_number, number_at}
 use Rattle.edit_check.specs.WellFormed.{IsWellFormed, ShowsNode, IsEdit, IsFreshIn, AreLawful, CanBeAsked, HasOtherSource, IsNoRoot}
-use Rattle.edit_laws.proofs.ListLemmas.{contains_head, contains_tail, contains_none, contains_cases, map_parts, zip_right, Placed, one, before, after, places}
+use Rattle.edit_laws.proofs.ListLemmas.{contains_head, contains_tail, contains_none, contains_cases, map_parts, zip_right, one, before, after, places}
 use Rattle.edit_laws.proofs.RowLemmas.{AreRows}
 
 some_of : {X : Type 0} (o : Option X) → is_some o ≡ true → (x : X) × (o ≡ Some x)

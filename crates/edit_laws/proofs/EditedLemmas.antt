@@ -1,21 +1,21 @@
 -- What stands in the edited tree of well-formed changes, and that it is a tree.
-use Rattle.std.proofs.Common.{◌≡◌, ◌≢◌, ◌⊎◌, inl, inr, ⊎_elim, ℕ, Bool, true, false, cond, not, ◌&&◌, ◌||◌, List, [], ◌∷◌, ◌++◌, map, filter, length, refl, sym, ◌∙◌, ap, subst, arith, append_assoc, Option, Some, None, is_some, IsTrue, if◌then◌else◌}
+use Rattle.std.proofs.Common.{◌≡◌, ◌⊎◌, inl, inr, ℕ, Bool, true, false, not, ◌&&◌, ◌||◌, List, [], ◌∷◌, ◌++◌, filter, length, refl, sym, ◌∙◌, ap, subst, arith, append_assoc, Option, Some, None, is_some, IsTrue}
 use Rattle.std.specs.Prelude.{Contains, unwrap_or}
-use Rattle.std.specs.List.{zip, AllZip, list_any}
+use Rattle.std.specs.List.{zip}
 use Rattle.std.specs.FinMap.{get, find}
 use Rattle.std.proofs.lemmas.Bool.{cond-true, cond-false, cases_Bool, and_parts, not-true, false_from_ne_true, not_from_false}
-use Rattle.std.proofs.lemmas.Option.{none-some, same_Some}
+use Rattle.std.proofs.lemmas.Option.{none-some}
 use Rattle.std.proofs.lemmas.List.{same_from_push}
 use Rattle.dired_text.specs.Paths.{Names, path_cmp}
 use Rattle.tree_core.specs.declared.node.Node.{Node}
 use Rattle.tree_core.specs.declared.node.Node.TheVariants.{Dir, Link, File}
-use Rattle.tree_core.specs.FileTree.{FileTree, IsTree, IsDir, IsMode, IsLawful, Stands}
+use Rattle.tree_core.specs.FileTree.{FileTree, IsTree, IsDir, IsMode, IsLawful}
 use Rattle.tree_core.proofs.TreeLemmas.{dir_stands}
 use Rattle.edit_check.specs.declared.row.Row.{Row}
 use Rattle.edit_check.specs.declared.row.Turn.TheVariants.{Sent}
 use Rattle.edit_check.specs.Place.{turned, place, IsAbove}
 use Rattle.edit_check.specs.Rows.{row_from, is_at, written, is_far, turn_of, is_kept}
-use Rattle.edit_check.specs.Edited.{Came, IsPlaced, missing, is_fresh, fresh_places, fresh_place_of, with_new_mode, mode_named, mode_of_row, number_at, is_number, added_by, edited, IsEdited}
+use Rattle.edit_check.specs.Edited.{Came, missing, is_fresh, fresh_places, fresh_place_of, with_new_mode, mode_named, mode_of_row, number_at, is_number, added_by, edited, IsEdited}
 use Rattle.edit_check.specs.WellFormed.{IsWellFormed, LinesRise}
 use Rattle.edit_laws.specs.Laws.{is_retargeted, goes, StandsAsEdited}
 use Rattle.edit_laws.proofs.ListLemmas.{contains_head, contains_tail, any_parts, any_from, contains_map, contains_filter, zip_left, zip_weaker}
@@ -24,7 +24,7 @@ use Rattle.edit_laws.proofs.PlacedLemmas.{placed_tree-IsPlaced}
 use Rattle.edit_laws.proofs.PlacedIsTree.{IsDirNode, Stayed, IsHeldUp, placed_is_tree}
 use Rattle.edit_laws.proofs.RowLemmas.{AreRows, row_from-some, is_at-true, is_at-same, rows_apart, settled, sent_far, root_kept}
 use Rattle.edit_laws.proofs.AskedLemmas.{AreMadeRows}
-use Rattle.edit_laws.proofs.AddedLemmas.{missing_there, missing_parts, MadeBy, IsMadeAt, retargeted, created, Added, is_made, is_missing, added_as, fresh_found, zip_pair, missing_found, nothing_added, made_found}
+use Rattle.edit_laws.proofs.AddedLemmas.{missing_there, missing_parts, IsMadeAt, retargeted, created, is_made, is_missing, added_as, fresh_found, zip_pair, missing_found, nothing_added, made_found}
 
 -- ---- new modes
 
@@ -79,9 +79,6 @@ retargeted_place rs r p listed retargets source = subst (Contains (fresh_places 
 -- ---- the edited tree
 
 module _ (t : FileTree) (rs : List Row) (made : List Node) (tree : IsTree t) (fine : IsWellFormed t rs) (are : AreRows t rs) where
-  abbrev pub Kept : Names → Type 0
-  Kept p = Stayed (is_kept rs) t p
-
   fits : IsApart (Stayed (is_kept rs) t) (turn_of rs)
   fits = rows_apart t rs tree fine are
 

@@ -1,15 +1,14 @@
 -- A tree whose paths went to their places is a tree.
-use Rattle.std.proofs.Common.{◌≡◌, ◌≢◌, ◌⊎◌, inl, inr, ⊎_elim, ℕ, Bool, true, false, cond, List, [], ◌∷◌, ◌++◌, refl, sym, ◌∙◌, ap, subst, Option, Some, None, is_some, IsTrue}
+use Rattle.std.proofs.Common.{◌≡◌, ◌⊎◌, inl, inr, ℕ, Bool, true, List, [], ◌∷◌, ◌++◌, refl, sym, ◌∙◌, ap, subst, Option, Some, None, is_some, IsTrue}
 use Rattle.std.specs.FinMap.{get, find}
 use Rattle.std.proofs.lemmas.List.{same_from_push}
-use Rattle.std.proofs.lemmas.Option.{none-some, same_Some}
 use Rattle.dired_text.specs.Paths.{Names, path_cmp}
 use Rattle.tree_core.specs.declared.node.Node.{Node}
 use Rattle.tree_core.specs.declared.node.Node.TheVariants.{Dir, Link, File}
 use Rattle.tree_core.specs.FileTree.{FileTree, IsTree, IsDir, Stands, IsLawful, is_dir_node}
 use Rattle.tree_core.proofs.TreeLemmas.{dir_stands}
 use Rattle.edit_check.specs.declared.row.Turn.{Turn}
-use Rattle.edit_check.specs.declared.row.Turn.TheVariants.{Stays, Named, Sent}
+use Rattle.edit_check.specs.declared.row.Turn.TheVariants.{Sent}
 use Rattle.edit_check.specs.Place.{turned, place, IsAbove}
 use Rattle.edit_check.specs.Edited.{Entries, IsPlaced, Came}
 use Rattle.edit_laws.proofs.PlaceLemmas.{by_last, place-push, View, sent, near, view, IsApart, push_not_root, turned-sent}

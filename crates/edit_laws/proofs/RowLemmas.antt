@@ -1,14 +1,11 @@
 -- Well-formed changes keep the places of the paths apart.
-use Rattle.std.proofs.Common.{◌≡◌, ◌≢◌, ◌⊎◌, inl, inr, ⊎_elim, ℕ, ◌+◌, ◌<◌, Bool, true, false, cond, not, ◌&&◌, ◌||◌, List, [], ◌∷◌, ◌++◌, refl, sym, ◌∙◌, ap, subst, append_assoc, Option, Some, None, is_some, IsTrue, if◌then◌else◌}
+use Rattle.std.proofs.Common.{◌≡◌, ◌≢◌, ◌⊎◌, inl, inr, ℕ, Bool, true, false, not, ◌&&◌, ◌||◌, List, [], ◌∷◌, ◌++◌, refl, sym, ◌∙◌, ap, subst, append_assoc, Option, Some, None, is_some}
 use Rattle.std.specs.Prelude.{Contains}
-use Rattle.std.specs.List.{list_any}
-use Rattle.std.specs.FinMap.{get}
 use Rattle.std.proofs.lemmas.Bool.{cond-true, cond-false, cases_Bool, and_parts, and_right, not-true, or_parts, false_from_ne_true, not_from_false, or_from}
 use Rattle.std.proofs.lemmas.Option.{none-some, same_Some}
 use Rattle.dired_text.specs.Paths.{Names, parent}
 use Rattle.dired_text.proofs.PathLemmas.{path_decides, parent-push}
-use Rattle.tree_core.specs.declared.node.Node.{Node}
-use Rattle.tree_core.specs.FileTree.{FileTree, IsTree, IsDir, IsAbsent, Stands}
+use Rattle.tree_core.specs.FileTree.{FileTree, IsTree, IsDir, Stands}
 use Rattle.tree_core.proofs.TreeLemmas.{dir_stands, absent_not}
 use Rattle.edit_check.specs.declared.row.Row.{Row}
 use Rattle.edit_check.specs.declared.row.Turn.{Turn}
@@ -18,7 +15,7 @@ use Rattle.edit_check.specs.Rows.{is_same_path, is_at, row_from, is_source, writ
 use Rattle.edit_check.specs.Edited.{is_fresh}
 use Rattle.edit_check.specs.WellFormed.{IsWellFormed, IsNoRoot}
 use Rattle.edit_laws.proofs.ListLemmas.{any_parts, any_from, any_none, find_parts, find_from}
-use Rattle.edit_laws.proofs.PlaceLemmas.{IsApart, IsFirm, by_last, push_not_root, stays_above, written_at, place-stays}
+use Rattle.edit_laws.proofs.PlaceLemmas.{IsApart, IsFirm, by_last, stays_above, written_at, place-stays}
 use Rattle.edit_laws.proofs.PlacedIsTree.{Stayed}
 
 pub is_at-true : (p : Names) (o : Option Names) → is_at p o ≡ true → o ≡ Some p
@@ -186,7 +183,7 @@ module _ (t : FileTree) (rs : List Row) (tree : IsTree t) (fine : IsWellFormed t
         stands = are.standing r s listed source;
       }
 
-  -- who is sent away has a far row
+  -- what is sent away has a far row
   far_row : (p w : Names) (o : Option Row) → row_from rs p ≡ o → turn_by p o ≡ Sent w → (r : Row) × Contains rs r × (r.to ≡ Some w) × (is_far r ≡ true)
   far_row p w None e is = absurd (stays_not_sent w is)
     where
@@ -293,9 +290,11 @@ module _ (t : FileTree) (rs : List Row) (tree : IsTree t) (fine : IsWellFormed t
 
   -- what stands above a far path is a directory that stays where it is
   pub settled : (r : Row) (u : Names) → Contains rs r → is_far r ≡ true → IsAbove u (written r) → Stands t u → Stayed (is_kept rs) t u × IsDir t u × (place (turn_of rs) u ≡ u)
-  settled r u listed far above stands =
-      (record { kept = kept_from u (not_victim u dir) (none_removed r listed (inl far) u); stands = stands }, dir,
-      place-stays (turn_of rs) u (λ v n rest is. turn_stays r v n listed far (longer v n rest is)))
+  settled r u listed far above stands = (
+    record { kept = kept_from u (not_victim u dir) (none_removed r listed (inl far) u); stands = stands },
+    dir,
+    place-stays (turn_of rs) u (λ v n rest is. turn_stays r v n listed far (longer v n rest is)),
+  )
     where
       dir : IsDir t u
       dir = fine.parents r u listed far above stands

@@ -1,5 +1,5 @@
 -- Laws of well-formed changes of a tree: where its paths go, and what stands there.
-use Rattle.std.specs.Prelude.{◌≡◌, ◌⊎◌, ℕ, Bool, true, List, ◌&&◌, not, Some, Contains}
+use Rattle.std.specs.Prelude.{◌≡◌, ◌⊎◌, Bool, true, List, ◌&&◌, not, Some, Contains}
 use Rattle.std.specs.List.{zip, list_any, AllZip}
 use Rattle.std.specs.FinMap.{get}
 use Rattle.dired_text.specs.Paths.{Names}
@@ -19,11 +19,15 @@ PlacesAreApart =
     (t : FileTree) (changes : Changes) → IsTree t → CanBeAsked (IsFile t) changes → IsWellFormed t (rows changes)
     → (p q : Names) → StaysPath t (rows changes) p → StaysPath t (rows changes) q → place (turn_of (rows changes)) p ≡ place (turn_of (rows changes)) q → p ≡ q
 
--- The edited tree is what the relation says, and nothing else is.
-abbrev pub EditedIsTheOne : Type 0
-EditedIsTheOne =
-    (t : FileTree) (changes : Changes) (made : List Node) → IsTree t → CanBeAsked (IsFile t) changes → IsWellFormed t (rows changes) → AreMadeFor t changes made
-    → IsEdited t (rows changes) made (edited t (rows changes) made) × ((u v : FileTree) → IsEdited t (rows changes) made u → IsEdited t (rows changes) made v → u ≡ v)
+-- The edited tree as a function is one as a relation, whatever entries are made,
+abbrev pub EditedIsEdited : Type 0
+EditedIsEdited =
+    (t : FileTree) (changes : Changes) (made : List Node) → IsTree t → CanBeAsked (IsFile t) changes → IsWellFormed t (rows changes)
+    → IsEdited t (rows changes) made (edited t (rows changes) made)
+
+-- and there is one at most, whatever is changed.
+abbrev pub EditedIsOne : Type 0
+EditedIsOne = (t u v : FileTree) (rs : List Row) (made : List Node) → IsEdited t rs made u → IsEdited t rs made v → u ≡ v
 
 -- whether a path is that of a link that gets another target
 abbrev pub is_retargeted : List Row → Names → Bool
@@ -47,11 +51,10 @@ pub record StandsAsEdited (t : FileTree) (rs : List Row) (made : List Node) (new
 
 abbrev pub PathsGoToTheirPlaces : Type 0
 PathsGoToTheirPlaces =
-    (t : FileTree) (changes : Changes) (made : List Node) → IsTree t → CanBeAsked (IsFile t) changes → IsWellFormed t (rows changes) → AreMadeFor t changes made
-    → StandsAsEdited t (rows changes) made (edited t (rows changes) made)
+    (t : FileTree) (changes : Changes) (made : List Node) → IsTree t → CanBeAsked (IsFile t) changes → IsWellFormed t (rows changes)
+    → AreMadeFor t changes made → StandsAsEdited t (rows changes) made (edited t (rows changes) made)
 
--- The edited tree is one.
 abbrev pub EditedIsTree : Type 0
 EditedIsTree =
-    (t : FileTree) (changes : Changes) (made : List Node) → IsTree t → CanBeAsked (IsFile t) changes → IsWellFormed t (rows changes) → AreMadeFor t changes made
-    → IsTree (edited t (rows changes) made)
+    (t : FileTree) (changes : Changes) (made : List Node) → IsTree t → CanBeAsked (IsFile t) changes → IsWellFormed t (rows changes)
+    → AreMadeFor t changes made → IsTree (edited t (rows changes) made)

@@ -1,6 +1,10 @@
 // Laws over the definitions alone.
 ghost use Rattle.edit_laws.specs.Laws.{
-    EditedIsTheOne, EditedIsTree, PathsGoToTheirPlaces, PlacesAreApart,
+  EditedIsEdited,
+  EditedIsOne,
+  EditedIsTree,
+  PathsGoToTheirPlaces,
+  PlacesAreApart,
 };
 
 /// Well-formed changes take two different paths of a tree that stay to different places.
@@ -8,9 +12,10 @@ pub fn places_are_apart()
     ensures { PlacesAreApart }
 {}
 
-/// The edited tree, as a function, is the one tree that is edited, as a relation.
+/// The edited tree as a function is the one tree that is edited as a relation.
 pub fn edited_tree_is_the_one()
-    ensures { EditedIsTheOne }
+    ensures is_edited { EditedIsEdited }
+    ensures no_other { EditedIsOne }
 {}
 
 /// In the edited tree each entry that is neither a victim, nor removed, nor a link with a new target stands at its new place with
