@@ -25,12 +25,9 @@ use Rattle.edit_check.specs.declared.row.Row.{Row}
 use Rattle.edit_check.specs.Rows.{rows, edit_row, removal_row, creation_row, is_far}
 use Rattle.edit_check.specs.Edited.{is_fresh, asked_fresh, HasFileNumber, IsMadeFor, HasOtherNumber, AreMadeFor, mode_named, is_number, number_at}
 use Rattle.edit_check.specs.WellFormed.{IsWellFormed, ShowsNode, IsEdit, IsFreshIn, AreLawful, CanBeAsked, HasOtherSource, IsNoRoot}
-use Rattle.edit_laws.proofs.ListLemmas.{contains_head, contains_tail, contains_none, contains_cases, map_parts, zip_right, one, before, after, places}
+use Rattle.edit_laws.proofs.ListLemmas.{contains_head, contains_tail, contains_none, contains_cases, map_parts, zip_right, one, before, after, ordered}
+use Rattle.edit_laws.proofs.PlacedIsTree.{some_of}
 use Rattle.edit_laws.proofs.RowLemmas.{AreRows}
-
-some_of : {X : Type 0} (o : Option X) → is_some o ≡ true → (x : X) × (o ≡ Some x)
-some_of None e = cc
-some_of (Some x) e = (x, refl)
 
 -- ---- rows
 
@@ -62,14 +59,14 @@ module _ (t : FileTree) (changes : Changes) (asked : CanBeAsked (IsFile t) chang
   kind_at r c = kind_of (IsFile t) changes asked.lawful r c
 
   same_line : (r o : Row) → Contains (rows changes) r → Contains (rows changes) o → r.line ≡ o.line → r ≡ o
-  same_line r o c d e = elim (places (λ (r o : Row). r.line < o.line) (rows changes) r o asked.lines c d) [
+  same_line r o c d e = elim (ordered (λ (r o : Row). r.line < o.line) (rows changes) r o asked.lines c d) [
     | one same ↦ same
     | before less ↦ let less : r.line < o.line = less in absurd (omega arith)
     | after less ↦ let less : o.line < r.line = less in absurd (omega arith)
   ]
 
   same_source : (r o : Row) (s : Names) → Contains (rows changes) r → Contains (rows changes) o → r.source ≡ Some s → o.source ≡ Some s → r ≡ o
-  same_source r o s c d at_r at_o = elim (places (λ (r o : Row). HasOtherSource r.source o.source) (rows changes) r o asked.sources c d) [
+  same_source r o s c d at_r at_o = elim (ordered (λ (r o : Row). HasOtherSource r.source o.source) (rows changes) r o asked.sources c d) [
     | one same ↦ same
     | before other ↦ absurd (other s s at_r at_o refl)
     | after other ↦ absurd (other s s at_o at_r refl)
@@ -214,7 +211,7 @@ module _ (t : FileTree) (changes : Changes) (tree : IsTree t) (asked : CanBeAske
   old_made x number b m c file has = let f = made_of x c in old_file f.0 x number b m f.2 file has
 
   alike_made : (x y : Node) (number : ℕ) (b c : List ℕ) (m k : ℕ) → Contains made x → Contains made y → x ≡ File number b m → y ≡ File number c k → (b ≡ c) × (m ≡ k)
-  alike_made x y number b c m k in_x in_y is_x is_y = elim (places (HasOtherNumber t) made x y made_for.numbers in_x in_y) [
+  alike_made x y number b c m k in_x in_y is_x is_y = elim (ordered (HasOtherNumber t) made x y made_for.numbers in_x in_y) [
     | one same ↦ let both : File number b m ≡ File number c k = sym is_x ∙ same ∙ is_y in (cc, cc)
     | before other ↦ both_old (other number b c m k is_x is_y)
     | after other ↦ both_old (other number c b k m is_y is_x)

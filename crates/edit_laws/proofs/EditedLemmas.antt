@@ -111,8 +111,8 @@ module _ (t : FileTree) (rs : List Row) (made : List Node) (tree : IsTree t) (fi
         ]
           where
             no_link : (came : Came (is_kept rs) (place (turn_of rs)) (with_new_mode t rs) t q node) → is_retargeted rs came.path ≡ false
-            no_link came = false_from_ne_true _ (λ yes_link.
-                let r = any_parts (λ (r : Row). r.retargets && is_at came.path r.source) rs yes_link in
+            no_link came = false_from_ne_true _ (λ link.
+                let r = any_parts (λ (r : Row). r.retargets && is_at came.path r.source) rs link in
                 let parts = and_parts r.0.retargets (is_at came.path r.0.source) r.2 in
                 let there = fresh_there r.0 came.path r.1 parts.0 (is_at-true came.path r.0.source parts.1) in
                 none-some there.0 (sym none ∙ ap (λ (l : Names). find path_cmp l (added_by t rs made)) (sym came.here) ∙ there.1))

@@ -78,14 +78,14 @@ module _ {X : Type 0} where
       go more (inl same) (inr other) = let both : true ≡ false = sym e ∙ ap p (sym same) ∙ other in absurd cc
       go more (inr later) (inr other) = let m = more later e in (m.0, cond-false (p x) (Some x) (find p xs) other ∙ m.1)
 
-  -- two that are contained stand at one place or at two
-  pub data Placed (R : X → X → Type 0) (x y : X) : Type 0 where
-    one : x ≡ y → Placed R x y
-    before : R x y → Placed R x y
-    after : R y x → Placed R x y
+  -- two that a list contains are one, or one stands before the other
+  pub data Ordered (R : X → X → Type 0) (x y : X) : Type 0 where
+    one : x ≡ y → Ordered R x y
+    before : R x y → Ordered R x y
+    after : R y x → Ordered R x y
 
-  pub places : (R : X → X → Type 0) (xs : List X) (x y : X) → AllPairs R xs → Contains xs x → Contains xs y → Placed R x y
-  places R xs x y all (i, i_below, at_x) (j, j_below, at_y) = go (cases_lt i j) (cases_lt j i)
+  pub ordered : (R : X → X → Type 0) (xs : List X) (x y : X) → AllPairs R xs → Contains xs x → Contains xs y → Ordered R x y
+  ordered R xs x y all (i, i_below, at_x) (j, j_below, at_y) = go (cases_lt i j) (cases_lt j i)
     where
       at_y' : (d : X) → get_or xs j d ≡ y
       at_y' d = get_or_default xs j d y j_below ∙ at_y
@@ -93,7 +93,7 @@ module _ {X : Type 0} where
       at_x' : (d : X) → get_or xs i d ≡ x
       at_x' d = get_or_default xs i d x i_below ∙ at_x
 
-      go : (i < j) ⊎ (j ≤ i) → (j < i) ⊎ (i ≤ j) → Placed R x y
+      go : (i < j) ⊎ (j ≤ i) → (j < i) ⊎ (i ≤ j) → Ordered R x y
       go (inl less) more = before (subst (λ (z : X). R z y) at_x (subst (R (get_or xs i x)) (at_y' x) (all i j x less j_below)))
       go (inr least) (inl less) = after (subst (λ (z : X). R z x) at_y (subst (R (get_or xs j y)) (at_x' y) (all j i y less i_below)))
       go (inr least) (inr most) = let same : i ≡ j = omega arith in one (sym at_x ∙ ap (λ (k : ℕ). get_or xs k x) same ∙ at_y' x)

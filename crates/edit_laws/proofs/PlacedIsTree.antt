@@ -23,28 +23,34 @@ some_dir (Some (Dir mode)) d = (mode, refl)
 some_dir (Some (Link target)) d = cc
 some_dir (Some (File number bytes mode)) d = cc
 
-some_of : (o : Option Node) → IsTrue (is_some o) → (node : Node) × (o ≡ Some node)
+pub some_of : {X : Type 0} (o : Option X) → IsTrue (is_some o) → (x : X) × (o ≡ Some x)
 some_of None s = cc
-some_of (Some node) s = (node, refl)
+some_of (Some x) s = (x, refl)
 
 pub record Stayed (keeps : Names → Bool) (t : FileTree) (p : Names) : Type 0 where
   pub kept : keeps p ≡ true
   pub stands : Stands t p
 
--- What makes it a tree: each path to which something is sent, or at which something is added, has a directory above it.
+-- What makes a tree of it.
 pub record IsHeldUp (added : Entries) (keeps : Names → Bool) (turn : Names → Turn) (shown : Names → Node → Node) (named : ℕ → ℕ → ℕ) (t : FileTree) : Type 0 where
   pub root : keeps [] ≡ true
+  -- nothing is added where a directory goes, which stays one
   pub directories : (p : Names) → keeps p ≡ true → IsDir t p → find path_cmp (place turn p) added ≡ None
   pub as_before : (p : Names) (mode : ℕ) → IsDirNode (Some (shown p (Dir mode)))
+  -- a file stays one, of the same bytes, and its new mode is that of its number
   pub files : (p : Names) (node : Node) (number : ℕ) (bytes : List ℕ) (mode : ℕ) → shown p node ≡ File number bytes mode
       → (m : ℕ) × (node ≡ File number bytes m) × (mode ≡ named number m)
+  -- above a path to which something is sent stands a directory that is added, or one that keeps its place
   pub above_sent : (p w u : Names) → Stayed keeps t p → turn p ≡ Sent w → IsAbove u w
       → IsDirNode (find path_cmp u added) ⊎ (Stayed keeps t u × IsDir t u × (place turn u ≡ u))
+  -- and above what is added one that is added, or one that goes there
   pub above_added : (q : Names) (n : List ℕ) → IsTrue (is_some (find path_cmp (q ++ n ∷ []) added))
       → IsDirNode (find path_cmp q added) ⊎ ((p : Names) × Stayed keeps t p × IsDir t p × (place turn p ≡ q))
+  -- files of one number are alike where one is added and the other is, too, or was there
   pub added_alike : (q : Names) (number : ℕ) (b c : List ℕ) (m k : ℕ) → find path_cmp q added ≡ Some (File number b m)
       → ((r : Names) → find path_cmp r added ≡ Some (File number c k) → (b ≡ c) × (m ≡ k))
       × ((r : Names) (o : ℕ) → get t r ≡ Some (File number c o) → k ≡ named number o → (b ≡ c) × (m ≡ k))
+  -- modes and targets are lawful
   pub shown_lawful : (p : Names) (node : Node) → IsLawful node → IsLawful (shown p node)
   pub added_lawful : (q : Names) (node : Node) → find path_cmp q added ≡ Some node → IsLawful node
 
