@@ -1,9 +1,8 @@
 -- The lines of a buffer that was read: no entry's line shows the root.
-use Rattle.std.proofs.Common.{◌≡◌, ◌≢◌, ℕ, ◌+◌, ◌-◌, Bool, true, false, List, [], ◌∷◌, ◌++◌, length, take, drop, refl, subst, Option, Some, None, Result, Ok, Err, if◌then◌else◌, codes, nat_lt}
+use Rattle.std.proofs.Common.{◌≡◌, ◌≢◌, ℕ, ◌+◌, ◌-◌, Bool, true, false, List, [], ◌∷◌, length, take, drop, refl, subst, Option, Some, None, Result, Ok, Err, if◌then◌else◌, codes, nat_lt}
 use Rattle.std.specs.List.{AllByRecursion}
 use Rattle.std.specs.Str.{bytes_eq}
 use Rattle.dired_text.specs.Paths.{Names}
-use Rattle.tree_core.specs.declared.edit.Shown.{Shown}
 use Rattle.tree_core.specs.declared.node.Kind.{Kind}
 use Rattle.tree_core.specs.declared.node.Kind.TheVariants.{File, Dir, Link}
 use Rattle.listing_text.specs.declared.faults.Field.TheVariants as field

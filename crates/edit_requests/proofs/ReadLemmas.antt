@@ -1,9 +1,9 @@
 -- What is read of a line is lawful: no path is the root, and no target has a NUL.
-use Rattle.std.proofs.Common.{◌≡◌, ◌≢◌, inl, inr, ℕ, zero, suc, ◌+◌, ◌-◌, ◌*◌, ◌<◌, ◌≤◌, Bool, true, false, ◌&&◌, ◌==◌, List, [], ◌∷◌, length, take, drop, refl, sym, ◌∙◌, ap, subst, arith, Option, Some, None, Result, Ok, Err, if◌then◌else◌, nat_le, option_map}
+use Rattle.std.proofs.Common.{◌≡◌, ◌≢◌, ℕ, zero, suc, ◌+◌, ◌-◌, ◌*◌, ◌≤◌, Bool, true, false, ◌&&◌, ◌==◌, List, [], ◌∷◌, length, refl, sym, ◌∙◌, ap, subst, arith, Option, Some, None, Result, Ok, Err, if◌then◌else◌, nat_le, option_map}
 use Rattle.std.specs.List.{AllByRecursion}
 use Rattle.std.specs.Option.{option_and_then}
 use Rattle.std.specs.Str.{is_utf8}
-use Rattle.std.proofs.lemmas.Bool.{and_parts, cases_Bool, eqb-true, leb-true}
+use Rattle.std.proofs.lemmas.Bool.{and_parts, leb-true}
 use Rattle.std.proofs.lemmas.List.Elements.{All-from_recursion}
 use Rattle.std.proofs.lemmas.Option.{same_Some}
 use Rattle.dired_text.specs.Paths.{Names, slash, path_bytes, max_path_bytes}
@@ -12,8 +12,6 @@ use Rattle.dired_text.specs.declared.resolving.NameError.{NameError}
 use Rattle.dired_text.specs.declared.resolving.NameError.TheVariants.{Absolute, TooLong}
 use Rattle.dired_text.specs.Escape.{backslash, is_control, is_octal_digit, octal_byte, behind_backslash, behind, in_front, then_read, unescaped_from, unescaped}
 use Rattle.dired_text.specs.declared.escaping.EscapeError.{EscapeError}
-use Rattle.tree_core.specs.declared.node.Kind.{Kind}
-use Rattle.tree_core.specs.declared.node.Kind.TheVariants.{File, Dir, Link}
 use Rattle.tree_core.specs.FileTree.{IsTarget}
 use Rattle.listing_text.specs.Fields.{name_of, target_of, plain_of, if_read}
 use Rattle.wdired_buffer.specs.Headers.{named, if_resolved}

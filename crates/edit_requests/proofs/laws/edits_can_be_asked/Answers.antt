@@ -1,4 +1,4 @@
-use Rattle.edit_requests.proofs.AskedLemmas.{can_be_asked}
+use Rattle.edit_requests.proofs.RequestLemmas.{can_be_asked}
 use Rattle.edit_requests.proofs.laws.edits_can_be_asked.Goals as goal
 
 pub returns : goal.returns

@@ -1,4 +1,4 @@
-use Rattle.edit_requests.proofs.AskedLemmas.{emptied_are}
+use Rattle.edit_requests.proofs.RequestLemmas.{emptied_are}
 use Rattle.edit_requests.proofs.laws.emptied_names_are_of_lines.Goals as goal
 
 pub returns : goal.returns
