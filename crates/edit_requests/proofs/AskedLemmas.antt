@@ -43,6 +43,7 @@ record IsTyped (was : Shown) (typed : Typed) : Type 0 where
   mode : IsMode typed.mode
   kept : was.kind ≡ Link → typed.mode ≡ was.mode
 
+-- each of the three by itself
 path_some : (dir : Names) (text : List ℕ) (typed : Option Names) (p : Names) → path_typed dir text ≡ Some typed → typed ≡ Some p → p ≢ []
 unfolding path_typed
 path_some dir [] typed p is some = cc
@@ -85,6 +86,7 @@ k_mode number was texts path mode = or_faulty number cause.BadTarget (target_typ
 abbrev k_path : ℕ → Shown → List ℕ → List ℕ × Option (List ℕ) → Option Names → Result Typed EditsFault
 k_path number was after texts path = or_faulty number cause.BadMode (mode_typed was (take 9 (drop 3 after))) >>= k_mode number was texts path
 
+-- all that a new line shows
 typed_lawful : (number : ℕ) (dir : Names) (name_at : ℕ) (was : Shown) (after : List ℕ) → AllOk (IsTyped was) (typed_of number dir name_at was after)
 unfolding typed_of
 typed_lawful number dir name_at was after =
@@ -148,6 +150,7 @@ edit_of number source was typed = record {
   line = number;
 }
 
+-- where it does, it is lawful
 typed_edit : (number : ℕ) (source : Names) (was : Shown) (typed : Typed) → IsTyped was typed → (is_some (edit_of number source was typed).to || is_some (edit_of number source was typed).target || is_some (edit_of number source was typed).mode) ≡ true → IsEdit (edit_of number source was typed)
 typed_edit number source was typed is asks = record {
   asks = any_of (is_some (edit_of number source was typed).to) (is_some (edit_of number source was typed).target) (is_some (edit_of number source was typed).mode) asks;

@@ -27,19 +27,21 @@ use Rattle.edit_requests.specs.RequestLaws.{EditsCanBeAsked, EmptiedAreOfLines, 
 use Rattle.edit_requests.proofs.LineLemmas.{then_all, all_at, HasSource, sources_some}
 use Rattle.edit_requests.proofs.AskedLemmas.{IsOfNumber, IsSourceOf, IsAskedOf, same_self, test_false, line_asked}
 
--- an edit of a line behind these earlier ones
+-- An edit of a line behind these earlier ones, which don't show its source.
 record IsBehind (earlier : List BufferLine) (edit : Edit) : Type 0 where
   line : length earlier < edit.line
   fresh : list_any (shows edit.source) earlier ≡ false
   not_root : IsNoRoot (edit_row edit)
   lawful : IsEdit edit
 
--- the edits and the emptied names of lines that stand behind these earlier ones
+-- The edits and the emptied names of later lines, which stand behind these earlier ones.
 record AreBehind (earlier later : List BufferLine) (asks : Asks) : Type 0 where
   each : All (IsBehind earlier) asks.edits
   lines : LinesRise (map edit_row asks.edits)
   sources : SourcesDiffer (map edit_row asks.edits)
   emptied : All (IsOfLine later) asks.emptied
+
+-- ---- from one line to the next
 
 none_behind : (earlier later : List BufferLine) → AreBehind earlier later (record { edits = []; emptied = [] })
 none_behind earlier later = record {
@@ -53,6 +55,7 @@ none_behind earlier later = record {
 push_parts : (path : Names) (earlier : List BufferLine) (line : BufferLine) → list_any (shows path) (earlier ++ line ∷ []) ≡ false → (list_any (shows path) earlier ≡ false) × (shows path line ≡ false)
 push_parts path earlier line is = or_parts (list_any (shows path) earlier) (shows path line) (sym (shows-push path earlier line) ∙ is)
 
+-- what is behind one line more is behind the earlier lines
 nearer : (earlier : List BufferLine) (line : BufferLine) (edit : Edit) → IsBehind (earlier ++ line ∷ []) edit → IsBehind earlier edit
 nearer earlier line edit far = record {
   line = let long = length-append earlier (line ∷ []) in let behind = far.line in omega arith;
@@ -61,6 +64,7 @@ nearer earlier line edit far = record {
   lawful = far.lawful;
 }
 
+-- a line's edit and one behind the line
 above : (earlier : List BufferLine) (line : BufferLine) (edit later : Edit) → IsOfNumber (length earlier + 1) line edit → IsBehind (earlier ++ line ∷ []) later → edit.line < later.line
 above earlier line edit later here far =
     let long = length-append earlier (line ∷ []) in
@@ -83,13 +87,16 @@ here_behind earlier line edit fresh here = record {
   lawful = here.lawful;
 }
 
--- in a longer list
+-- the paths whose names were emptied, in a longer list
 later_line : (line : BufferLine) (later : List BufferLine) (path : Names) → IsOfLine later path → IsOfLine (line ∷ later) path
 later_line line later path is = (is.0, (is.1.0, is.1.1, is.1.2, Contains-append_right (line ∷ []) later (Entry is.1.0 is.1.1 path is.1.2) is.1.3))
 
 first_line : (line : BufferLine) (later : List BufferLine) (path : Names) → IsSourceOf line path → IsOfLine (line ∷ later) path
 first_line line later path is = (is.0, (is.1.0, is.1.1, is.1.2, (0, (omega arith), is.1.3)))
 
+-- ---- the lines, from the last to the first
+
+-- a line's edit, if any, in front of those behind it
 with_edit : (earlier : List BufferLine) (line : BufferLine) (o : Option Edit) (edits : List Edit) → is_twice earlier line ≡ false → ((edit : Edit) → o ≡ Some edit → IsOfNumber (length earlier + 1) line edit) → All (IsBehind (earlier ++ line ∷ [])) edits → LinesRise (map edit_row edits) → SourcesDiffer (map edit_row edits)
     → All (IsBehind earlier) (option_to_list o ++ edits) × LinesRise (map edit_row (option_to_list o ++ edits)) × SourcesDiffer (map edit_row (option_to_list o ++ edits))
 with_edit earlier line None edits fresh here each rise differ = (All-weaker (IsBehind (earlier ++ line ∷ [])) (IsBehind earlier) (nearer earlier line) edits each, rise, differ)

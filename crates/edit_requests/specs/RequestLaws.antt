@@ -9,16 +9,16 @@ use Rattle.wdired_buffer.specs.Buffer.{buffer_of}
 use Rattle.wdired_buffer.specs.Edits.{Asks, edits_of}
 use Rattle.edit_check.specs.WellFormed.{AreAsked, max_changes}
 
--- the edits that an edited text asks for of the lines of a buffer, where they aren't too many
+-- the edits that an edited text of a buffer's lines asks for, where they aren't too many
 abbrev pub EditsCanBeAsked : Type 0
 EditsCanBeAsked = (bytes after : List ℕ) (before : List BufferLine) (asks : Asks) → buffer_of bytes ≡ Ok before → edits_of before after ≡ Ok asks
     → length asks.edits ≤ max_changes → AreAsked (Edits asks.edits)
 
--- an entry's line shows the path, which isn't the root
+-- the path isn't the root, and an entry's line shows it
 abbrev pub IsOfLine : List BufferLine → Names → Type 0
 IsOfLine before path = (path ≢ []) × ((text : List ℕ) × (name_at : ℕ) × (was : Shown) × Contains before (Entry text name_at path was))
 
--- the emptied names
+-- the paths whose names were emptied
 abbrev pub EmptiedAreOfLines : Type 0
 EmptiedAreOfLines = (bytes after : List ℕ) (before : List BufferLine) (asks : Asks) → buffer_of bytes ≡ Ok before → edits_of before after ≡ Ok asks
     → All (IsOfLine before) asks.emptied

@@ -7,7 +7,7 @@ pub fn edits_can_be_asked()
     ensures { EditsCanBeAsked }
 {}
 
-/// An emptied name is that of an entry's line of the buffer, and so it isn't the root's.
+/// A path whose name was emptied is shown by an entry's line of the buffer, and isn't the root.
 pub fn emptied_names_are_of_lines()
     ensures { EmptiedAreOfLines }
 {}
