@@ -1,0 +1,4 @@
+mod ReadLemmas
+mod LineLemmas
+mod AskedLemmas
+mod RequestLemmas
