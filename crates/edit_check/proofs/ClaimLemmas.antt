@@ -3,7 +3,7 @@ use Rattle.std.proofs.Common.{◌≡◌, inl, inr, ℕ, ◌≤◌, ◌<◌, ◌=
 use Rattle.std.specs.List.{find, list_any}
 use Rattle.std.specs.Option.{unwrap_or}
 use Rattle.std.proofs.lemmas.Bool.{cond-true, cond-false, cond_both, cases_Bool, cases_eq, eq-eqb, ne_eqb, or_left, or_right, or_from, or_cases, and_from, and_right, false≢true}
-use Rattle.std.proofs.lemmas.Bool.Decides.{Decides-eqb, Decides-and, Decides-like, same_from_decides}
+use Rattle.std.proofs.lemmas.Bool.Decides.{Decides-eqb, Decides-like, same_from_decides}
 use Rattle.std.proofs.Math.Bool.{or_assoc, or-false}
 use Rattle.dired_text.specs.Paths.{Names}
 use Rattle.dired_text.proofs.PathLemmas.{path_decides}
@@ -131,7 +131,7 @@ two_to_one_found rs r =
     let claims : Row → Bool = λ o. is_same_path (written o) (written r) in
     ap (option_map (TwoToOne r.line))
     (line_where_alike (λ (o : Row). not (o.line == r.line) && is_same_path (written r) (written o)) (λ (o : Row). claims o && not (o.line == r.line)) rs
-        (λ o c. and_swap (not (o.line == r.line)) (is_same_path (written r) (written o)) (claims o) (same_path_swap (written r) (written o)))
+    (λ o c. and_swap (not (o.line == r.line)) (is_same_path (written r) (written o)) (claims o) (same_path_swap (written r) (written o)))
     ∙ sym (other_claimed claims (λ (o : Row). o.line) rs r.line))
 
 -- ---- the least line over paths
@@ -201,6 +201,11 @@ least_found has line ps rs rise each =
     ap (λ (o : Option ℕ). least_line line o ps) (sym ((no_line (λ (o : Row). false) rs).1 (λ o c. refl)))
     ∙ least_behind has line (λ (o : Row). false) ps rs rise each
 
+-- the lines themselves decide it
+pub least_alike : (f g : Names → Option ℕ) (so_far : Option ℕ) (ps : List Names) → ((p : Names) → f p ≡ g p) → least_line f so_far ps ≡ least_line g so_far ps
+least_alike f g so_far [] same = refl
+least_alike f g so_far (p ∷ ps) same = ap (λ (o : Option ℕ). least_line f (lesser so_far o) ps) (same p) ∙ least_alike f g (lesser so_far (g p)) ps same
+
 -- ---- lines above a path
 
 path_listed : (u : Names) (ps : List Names) → Decides (list_any (λ (p : Names). is_same_path u p) ps) (Contains ps u)
@@ -255,21 +260,21 @@ passing_listed test u (p ∷ ps) =
           ]
       | inr other ↦
           cond_both (test p) (p ∷ filter test ps) (filter test ps) (λ (qs : List Names). any qs ≡ any (filter test ps))
-              (λ e. ap (λ (b : Bool). b || any (filter test ps)) other) (λ e. refl)
+          (λ e. ap (λ (b : Bool). b || any (filter test ps)) other) (λ e. refl)
           ∙ later
           ∙ sym (ap (λ (b : Bool). (b || any ps) && test u) other)
     ]
 
 pub parent_taken_found : (sight : Sight) (rs : List Row) (r : Row) → LinesRise rs
     → parent_taken sight rs r ≡ option_map (ParentTaken r.line)
-        (least_line (λ (p : Names). line_where (λ (o : Row). is_same_path (written o) p) rs) None (filter (λ (p : Names). not (is_some (sight.at p))) (fronts (written r))))
+    (least_line (λ (p : Names). line_where (λ (o : Row). is_same_path (written o) p) rs) None (filter (λ (p : Names). not (is_some (sight.at p))) (fronts (written r))))
 parent_taken_found sight rs r rise =
     let test : Names → Bool = λ p. not (is_some (sight.at p)) in
     ap (option_map (ParentTaken r.line)) (sym (
-        least_found (λ p o. is_same_path (written o) p) (λ p. line_where (λ (o : Row). is_same_path (written o) p) rs) (filter test (fronts (written r))) rs rise (λ p. refl)
-        ∙ line_where_alike _ _ rs (λ o c.
-            passing_listed test (written o) (fronts (written r))
-            ∙ ap (λ (b : Bool). b && test (written o)) (above_listed (written o) (written r)))))
+    least_found (λ p o. is_same_path (written o) p) (λ p. line_where (λ (o : Row). is_same_path (written o) p) rs) (filter test (fronts (written r))) rs rise (λ p. refl)
+    ∙ line_where_alike _ _ rs (λ o c.
+    passing_listed test (written o) (fronts (written r))
+    ∙ ap (λ (b : Bool). b && test (written o)) (above_listed (written o) (written r)))))
 
 -- ---- lines with a mode of one file
 
@@ -289,11 +294,11 @@ pub mode_clash_found : (sight : Sight) (rs : List Row) (r : Row) (number m : ℕ
 mode_clash_found sight rs r number m numbered moded =
     let claims : Row → Bool = λ o. are_same (Some number) (number_at sight o.source) && is_some o.mode in
     ap (option_map (ModeClash r.line)) (
-        line_where_alike _ (λ (o : Row). claims o && not (unwrap_or o.mode 0 == m)) rs (λ o c.
-            ap (λ (n : Option ℕ). are_same n (number_at sight o.source) && differ r.mode o.mode) numbered
-            ∙ ap (λ (k : Option ℕ). are_same (Some number) (number_at sight o.source) && differ k o.mode) moded
-            ∙ other_mode (are_same (Some number) (number_at sight o.source)) m o.mode)
-        ∙ sym (other_claimed claims (λ (o : Row). unwrap_or o.mode 0) rs m))
+    line_where_alike _ (λ (o : Row). claims o && not (unwrap_or o.mode 0 == m)) rs (λ o c.
+    ap (λ (n : Option ℕ). are_same n (number_at sight o.source) && differ r.mode o.mode) numbered
+    ∙ ap (λ (k : Option ℕ). are_same (Some number) (number_at sight o.source) && differ k o.mode) moded
+    ∙ other_mode (are_same (Some number) (number_at sight o.source)) m o.mode)
+    ∙ sym (other_claimed claims (λ (o : Row). unwrap_or o.mode 0) rs m))
 
 -- what is no file, or gets no mode, clashes with nothing
 pub no_number_no_clash : (sight : Sight) (rs : List Row) (r : Row) → number_at sight r.source ≡ None → mode_clash sight rs r ≡ None

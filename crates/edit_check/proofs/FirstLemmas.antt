@@ -14,10 +14,10 @@ use Rattle.edit_check.proofs.FindLemmas.{contains_head, contains_tail, contains_
 
 -- ---- rising lines
 
-rise_rest : (x : Row) (xs : List Row) → LinesRise (x ∷ xs) → LinesRise xs
+pub rise_rest : (x : Row) (xs : List Row) → LinesRise (x ∷ xs) → LinesRise xs
 rise_rest x xs rise i j d less below = rise (suc i) (suc j) d (omega arith) (let more : suc j < length (x ∷ xs) = omega arith in more)
 
-rise_first : (x o : Row) (xs : List Row) → LinesRise (x ∷ xs) → Contains xs o → x.line < o.line
+pub rise_first : (x o : Row) (xs : List Row) → LinesRise (x ∷ xs) → Contains xs o → x.line < o.line
 rise_first x o xs rise (k, below, at) =
     let within : suc k < length (x ∷ xs) = omega arith in
     subst (λ (y : Row). x.line < y.line) at (rise 0 (suc k) o (omega arith) within)

@@ -5,4 +5,7 @@ pub mod AboveLemmas
 pub mod RefusalLemmas
 pub mod WellFormedLemmas
 pub mod FirstLemmas
+pub mod AlikeLemmas
+pub mod LeastLemmas
 pub mod ClaimLemmas
+pub mod SameSight

@@ -8,4 +8,6 @@ pub mod Counting
 pub mod Claims
 pub mod Tables
 pub mod Found
+pub mod Checks
+pub mod Facts
 pub mod Laws

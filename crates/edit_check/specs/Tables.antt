@@ -3,6 +3,7 @@ use Rattle.std.specs.Prelude.{◌≡◌, ℕ, Bool, false, ◌&&◌, List, Optio
 use Rattle.std.specs.Option.{option_map, unwrap_or}
 use Rattle.std.specs.Ordering.{nat_cmp}
 use Rattle.std.specs.BTreeMap.{BTreeMap, get}
+use Rattle.std.specs.BTreeSet.{BTreeSet, contains}
 use Rattle.dired_text.specs.Paths.{Names, path_cmp}
 use Rattle.edit_check.specs.declared.row.Row.{Row}
 use Rattle.edit_check.specs.declared.row.Turn.{Turn}
@@ -10,7 +11,7 @@ use Rattle.edit_check.specs.declared.claims.Claim.{Claim}
 use Rattle.edit_check.specs.declared.table.Table.{Table}
 use Rattle.edit_check.specs.Sight.{Sight, number_at}
 use Rattle.edit_check.specs.Refusals.{are_same}
-use Rattle.edit_check.specs.Rows.{is_same_path, row_from, turn_to, written}
+use Rattle.edit_check.specs.Rows.{is_removed, is_same_path, row_from, turn_to, written}
 use Rattle.edit_check.specs.Claims.{claims_behind}
 
 -- what becomes of each source
@@ -30,11 +31,16 @@ is_moved_by p (Some source) (Some to) = is_same_path source p
 abbrev pub AreMovers : BTreeMap Names Claim → List Row → Type 0
 AreMovers claims rs = (p : Names) → get path_cmp claims p ≡ claims_behind (λ (o : Row). is_moved_by p o.source o.to) (λ (o : Row). o.line) None rs
 
+-- the paths that are to be removed
+abbrev pub AreRemoved : BTreeSet Names → List Row → Type 0
+AreRemoved removed rs = (p : Names) → contains path_cmp removed p ≡ is_removed rs p
+
 -- what a table finds is what its rows say
 pub record IsTable (table : Table) : Type 0 where
   pub turns : AreTurns table.turns table.rows.items
   pub writers : AreWriters table.writers.claims table.rows.items
   pub movers : AreMovers table.movers.claims table.rows.items
+  pub removed : AreRemoved table.removed table.rows.items
 
 abbrev pub names_mode : Sight → ℕ → Row → Bool
 names_mode sight number o = are_same (Some number) (number_at sight o.source) && is_some o.mode

@@ -1,5 +1,8 @@
 // Why changes can't be made.
-use dired_text::Path;
+ghost use Rattle.std.specs.Prelude.{◌≡◌};
+ghost use Rattle.edit_check.specs.declared.fault.CheckFault.TheVariants as fault;
+
+use dired_text::{Memory, Path};
 use tree_core::CallName;
 
 /// Why changes are refused. The line is the least one that has the fault, and the other line the least other one that it
@@ -36,4 +39,12 @@ pub enum CheckFault {
     TreeFault(CallName),
     /// An allocation was refused.
     Memory,
+}
+
+impl From<Memory> for CheckFault {
+    ghost from_gives = { λ _ e. e ≡ fault.Memory };
+
+    fn from(_error: Memory) -> CheckFault {
+        CheckFault::Memory
+    }
 }

@@ -1,6 +1,8 @@
 //! Whether changes of a tree are well formed, and where they take each path.
 #![tactic(auto)]
 
+mod checking;
+mod checked;
 mod claims;
 mod counts;
 mod fault;
@@ -13,6 +15,8 @@ mod rules;
 mod sight;
 mod table;
 
+pub use checking::check;
+pub use checked::Checked;
 pub use counts::Counts;
 pub use fault::CheckFault;
 pub use laws::{

@@ -32,14 +32,15 @@ fn turned(
     to: Vec<Name>,
     name: &Name,
 ) -> Result<Vec<Name>, Memory>
-    ensures { IfOk result (λ names. names.items ≡ turned_of (unwrap_or (option_map (λ t. t.now) turn.entry) turns.Stays) to.entry.items name.now) }
+    ensures { IfOk result (λ names. names.items ≡ turned_of (unwrap_or (option_map (λ t. t.now) turn.entry) turns.Stays) to.items name.now) }
 {
-    let mut to = to;
-    match turn {
-        None | Some(Turn::Stays) => to.push(name.copy()?)?,
-        Some(Turn::Named(other)) => to.push(other.copy()?)?,
+    let name = match turn {
+        None | Some(Turn::Stays) => name,
+        Some(Turn::Named(other)) => other,
         Some(Turn::Sent(path)) => return copy_names(alloc, path.names()),
-    }
+    };
+    let mut to = to;
+    to.push(name.copy()?)?;
     Ok(to)
 }
 

@@ -1,18 +1,19 @@
 // The changes, found by their paths.
-ghost use Rattle.std.specs.Prelude.{◌≡◌, IfOk, OnOk, ◌≢◌, [], Some, None, All, IsTrue, is_some, if◌then◌else◌};
+ghost use Rattle.std.specs.Prelude.{◌≡◌, IfOk, OnOk, ◌||◌, ◌&&◌, ◌≢◌, [], Some, None, All, IsTrue, is_some, if◌then◌else◌};
 ghost use Rattle.std.specs.Option.{option_or};
 ghost use Rattle.std.specs.BTreeMap.{get};
+ghost use Rattle.std.specs.BTreeSet.{contains};
 ghost use Rattle.dired_text.specs.Paths.{Names, path_cmp, parent};
-ghost use Rattle.edit_check.specs.Rows.{is_at, is_far as is_far_row, is_same_path, is_source, turn_of, turn_to, written as written_path};
+ghost use Rattle.edit_check.specs.Rows.{is_at, is_far as is_far_row, is_same_path, is_source, is_victim, is_removed, turn_of, turn_to, written as written_path};
 ghost use Rattle.edit_check.specs.Claims.{claimed_by};
-ghost use Rattle.edit_check.specs.Tables.{AreTurns, AreWriters, AreMovers, IsTable, is_moved_by};
+ghost use Rattle.edit_check.specs.Tables.{AreTurns, AreWriters, AreMovers, AreRemoved, IsTable, is_moved_by};
 ghost use Rattle.edit_check.specs.WellFormed.{IsNoRoot};
 
 use crate::claims::PathClaims;
 use crate::row::{Row, Turn};
 use dired_text::{Memory, Name, Path};
 use std::alloc::Global;
-use std::collections::BTreeMap;
+use std::collections::{BTreeMap, BTreeSet};
 
 /// The changes, found by their paths.
 #[derive(Drop)]
@@ -24,6 +25,8 @@ pub struct Table {
     pub writers: PathClaims,
     // the lines that give each source a new path
     pub movers: PathClaims,
+    // the paths that are to be removed
+    pub removed: BTreeSet<Path>,
 }
 
 /// The written path: the new path, or the source where there is none.
@@ -135,6 +138,27 @@ fn note_mover(movers: &mut PathClaims, row: &Row) -> Result<(), Memory>
     Ok(())
 }
 
+// The paths that are to be removed.
+fn removed_of(alloc: Global, rows: &[Row]) -> Result<BTreeSet<Path>, Memory>
+    ensures { IfOk result (λ s. AreRemoved s rows.now) }
+{
+    let mut removed = BTreeSet::new(alloc);
+    for row in rows {
+        note_removed(&mut removed, row)?;
+    }
+    Ok(removed)
+}
+
+// Notes the source of a row that removes it.
+fn note_removed(removed: &mut BTreeSet<Path>, row: &Row) -> Result<(), Memory>
+    ensures { OnOk result ((p : Names) → contains path_cmp removed.new p ≡ (contains path_cmp removed.old p || row.now.removes && is_at p row.now.source)) }
+{
+    if let (Some(source), true) = (&row.source, row.removes) {
+        removed.insert(source.copy()?)?;
+    }
+    Ok(())
+}
+
 impl Table {
     /// The table of these rows.
     pub fn new(alloc: Global, rows: Vec<Row>) -> Result<Self, Memory>
@@ -146,6 +170,7 @@ impl Table {
             turns: turns_of(alloc, &rows)?,
             writers: writers_of(alloc, &rows)?,
             movers: movers_of(alloc, &rows)?,
+            removed: removed_of(alloc, &rows)?,
             rows,
         })
     }
@@ -156,5 +181,21 @@ impl Table {
         ensures { result ≡ is_source self.now.rows.items path.now }
     {
         self.turns.contains_key(path)
+    }
+
+    /// Whether the path is the new path of a change and the source of none, so that what stands there is replaced.
+    pub fn is_victim(&self, path: &Path) -> bool
+        requires { IsTable self.now }
+        ensures { result ≡ is_victim self.now.rows.items path.now }
+    {
+        self.writers.first(path).is_some() && !self.is_source(path)
+    }
+
+    /// Whether the path is to be removed.
+    pub fn is_removed(&self, path: &Path) -> bool
+        requires { IsTable self.now }
+        ensures { result ≡ is_removed self.now.rows.items path.now }
+    {
+        self.removed.contains(path)
     }
 }

@@ -1,0 +1,14 @@
+-- That what a check keeps is one fact.
+use Rattle.std.proofs.Props.{props}
+use Rattle.edit_check.specs.declared.row.Row.{Row}
+use Rattle.edit_check.specs.declared.table.Table.{Table}
+use Rattle.edit_check.specs.declared.findings.Findings.{Findings}
+use Rattle.edit_check.specs.Tables.{IsTable}
+use Rattle.edit_check.specs.Found.{IsCovered}
+use Rattle.std.specs.Prelude.{List}
+
+pub IsTable-prop : (table : Table) → IsProp (IsTable table)
+IsTable-prop table = hlevel props
+
+pub IsCovered-prop : (f : Findings) (rs : List Row) → IsProp (IsCovered f rs)
+IsCovered-prop f rs = hlevel props

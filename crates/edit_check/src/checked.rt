@@ -1,0 +1,55 @@
+// Changes that can be made.
+ghost use Rattle.std.specs.Prelude.{◌≡◌, IfOk, None};
+ghost use Rattle.dired_text.specs.Paths.{Names};
+ghost use Rattle.edit_check.specs.Rows.{rows as rows_in};
+ghost use Rattle.edit_check.specs.Tables.{IsTable};
+ghost use Rattle.edit_check.specs.Found.{sight_in, IsCovered};
+ghost use Rattle.edit_check.specs.Facts.{IsTable-prop, IsCovered-prop};
+ghost use Rattle.edit_check.specs.Refusals.{refusal};
+ghost use Rattle.edit_check.specs.Counting.{counts_of};
+ghost use Rattle.edit_check.specs.Checks.{new_place_of};
+
+use crate::Counts;
+use crate::findings::Findings;
+use crate::places::place;
+use crate::table::Table;
+use dired_text::{Memory, Path};
+use std::alloc::Global;
+use tree_core::{Changes, Confirmed};
+
+/// Changes that were checked, with the confirmations, and with what was found at each path that was looked at. They can be made
+/// in each tree that has these findings.
+#[derive(Drop)]
+pub struct Checked {
+    alloc: Global,
+    pub(crate) changes: Changes,
+    pub(crate) confirmed: Confirmed,
+    pub(crate) findings: Findings,
+    pub(crate) table: Table,
+    pub(crate) counts: Counts,
+    ghost rows_are: { table.rows.items ≡ rows_in changes },
+    ghost table_is: { IsTable table } by { IsTable-prop table },
+    ghost covered: { IsCovered findings table.rows.items } by { IsCovered-prop findings table.rows.items },
+    ghost taken: { refusal (sight_in findings) confirmed table.rows.items ≡ None },
+    ghost counted: { counts ≡ counts_of (sight_in findings) table.rows.items },
+}
+
+impl Checked {
+    /// How much the changes change.
+    pub fn counts(&self) -> Counts
+        ensures { result ≡ self.now.counts }
+    {
+        self.counts
+    }
+
+    /// The new place of a path of the tree, or None where it is replaced or removed, or has more than 4,095 bytes.
+    pub fn new_place(&self, old: &Path) -> Result<Option<Path>, Memory>
+        ensures { IfOk result (λ found. found ≡ new_place_of (rows_in self.now.changes) old.now) }
+    {
+        if self.table.is_victim(old) || self.table.is_removed(old) {
+            return Ok(None);
+        }
+        let names = place(self.alloc, &self.table, old)?;
+        Path::join(self.alloc, &names)
+    }
+}

