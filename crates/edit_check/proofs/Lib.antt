@@ -9,3 +9,4 @@ pub mod AlikeLemmas
 pub mod LeastLemmas
 pub mod ClaimLemmas
 pub mod SameSight
+pub mod RuleLemmas

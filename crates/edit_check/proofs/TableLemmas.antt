@@ -1,5 +1,5 @@
 -- Paths in maps, and what is written at them.
-use Rattle.std.proofs.Common.{◌≡◌, ◌≢◌, ◌⊎◌, suc, ℕ, Bool, true, false, cond, List, [], ◌∷◌, ◌++◌, take, length, Option, Some, None, refl, sym, ◌∙◌, ap, subst, arith, ◌≤◌, ◌-◌, slice_index_or, is_some, if◌then◌else◌, IsTrue}
+use Rattle.std.proofs.Common.{◌≡◌, ◌≢◌, ◌⊎◌, suc, ℕ, Bool, true, false, ◌||◌, cond, List, [], ◌∷◌, ◌++◌, take, length, Option, Some, None, refl, sym, ◌∙◌, ap, subst, arith, ◌≤◌, ◌-◌, slice_index_or, is_some, if◌then◌else◌, IsTrue}
 use Rattle.std.specs.Option.{option_or}
 use Rattle.std.specs.declared.cmp.Ordering.{Ordering}
 use Rattle.std.specs.declared.cmp.Ordering.TheVariants.{Less, Equal, Greater}
@@ -79,3 +79,13 @@ pub last_at : (p : Names) (d : List ℕ) → 1 ≤ length p → slice_index_or p
 last_at [] d some = absurd (omega (arith, some))
 last_at (n ∷ []) d some = refl
 last_at (n ∷ m ∷ p) d some = let e : length (n ∷ m ∷ p) - 1 ≡ suc (length (m ∷ p) - 1) = omega arith in rw e (last_at (m ∷ p) d (omega arith))
+
+-- a path that is put into a set is there
+pub path_added : (path p : Names) (b : Bool) → cond (is_same_path path p) true b ≡ (b || is_same_path p path)
+path_added path p b = ap (λ (t : Bool). cond t true b) (same_swapped path p) ∙ go (is_same_path p path) b
+  where
+    go : (t b : Bool) → cond t true b ≡ (b || t)
+    go true true = refl
+    go true false = refl
+    go false true = refl
+    go false false = refl

@@ -32,3 +32,9 @@ lesser (Some a) (Some b) = Some (min a b)
 abbrev pub least_line : (Names → Option ℕ) → Option ℕ → List Names → Option ℕ
 least_line line so_far [] = so_far
 least_line line so_far (p ∷ ps) = least_line line (lesser so_far (line p)) ps
+
+-- the line that names another mode for a file, where there is a file and a mode
+abbrev pub other_mode_line : (ℕ → Option Claim) → Option ℕ → Option ℕ → Option ℕ
+other_mode_line claims None mode = None
+other_mode_line claims (Some number) None = None
+other_mode_line claims (Some number) (Some mode) = other_line (claims number) mode

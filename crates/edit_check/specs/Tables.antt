@@ -9,9 +9,12 @@ use Rattle.edit_check.specs.declared.row.Row.{Row}
 use Rattle.edit_check.specs.declared.row.Turn.{Turn}
 use Rattle.edit_check.specs.declared.claims.Claim.{Claim}
 use Rattle.edit_check.specs.declared.table.Table.{Table}
+use Rattle.edit_check.specs.declared.victims.Confirmations.{Confirmations}
+use Rattle.tree_core.specs.declared.changes.Confirmed.{Confirmed}
+use Rattle.std.specs.List.{list_any}
 use Rattle.edit_check.specs.Sight.{Sight, number_at}
 use Rattle.edit_check.specs.Refusals.{are_same}
-use Rattle.edit_check.specs.Rows.{is_removed, is_same_path, row_from, turn_to, written}
+use Rattle.edit_check.specs.Rows.{is_removed, is_written, is_same_path, row_from, turn_to, written}
 use Rattle.edit_check.specs.Claims.{claims_behind}
 
 -- what becomes of each source
@@ -31,6 +34,10 @@ is_moved_by p (Some source) (Some to) = is_same_path source p
 abbrev pub AreMovers : BTreeMap Names Claim → List Row → Type 0
 AreMovers claims rs = (p : Names) → get path_cmp claims p ≡ claims_behind (λ (o : Row). is_moved_by p o.source o.to) (λ (o : Row). o.line) None rs
 
+-- the new paths
+abbrev pub AreNewPaths : BTreeSet Names → List Row → Type 0
+AreNewPaths new_paths rs = (p : Names) → contains path_cmp new_paths p ≡ is_written rs p
+
 -- the paths that are to be removed
 abbrev pub AreRemoved : BTreeSet Names → List Row → Type 0
 AreRemoved removed rs = (p : Names) → contains path_cmp removed p ≡ is_removed rs p
@@ -40,6 +47,7 @@ pub record IsTable (table : Table) : Type 0 where
   pub turns : AreTurns table.turns table.rows.items
   pub writers : AreWriters table.writers.claims table.rows.items
   pub movers : AreMovers table.movers.claims table.rows.items
+  pub new_paths : AreNewPaths table.new_paths table.rows.items
   pub removed : AreRemoved table.removed table.rows.items
 
 abbrev pub names_mode : Sight → ℕ → Row → Bool
@@ -48,3 +56,8 @@ names_mode sight number o = are_same (Some number) (number_at sight o.source) &&
 -- the modes that lines name for each file
 abbrev pub AreFileModes : Sight → BTreeMap ℕ Claim → List Row → Type 0
 AreFileModes sight claims rs = (number : ℕ) → get nat_cmp claims number ≡ claims_behind (names_mode sight number) (λ (o : Row). unwrap_or o.mode 0) None rs
+
+-- what is confirmed, found by its path
+pub record AreConfirmations (confirmations : Confirmations) (confirmed : Confirmed) : Type 0 where
+  pub all : confirmations.all ≡ confirmed.all
+  pub paths : (p : Names) → contains path_cmp confirmations.paths p ≡ list_any (is_same_path p) confirmed.paths

@@ -48,8 +48,8 @@ fn other_than(claim: Option<Claim>, value: u32) -> Option<u32>
     }
 }
 
-// The lesser of two lines, where there are two.
-fn lesser(a: Option<u32>, b: Option<u32>) -> Option<u32>
+/// The lesser of two lines, where there are two.
+pub fn lesser(a: Option<u32>, b: Option<u32>) -> Option<u32>
     ensures { result ≡ lesser_line a b }
 {
     match (a, b) {

@@ -2,9 +2,12 @@
 #![tactic(auto)]
 
 mod checking;
+mod bytes;
 mod checked;
 mod claims;
+mod counting;
 mod counts;
+mod deciding;
 mod fault;
 mod findings;
 mod fronts;
@@ -14,6 +17,7 @@ mod row;
 mod rules;
 mod sight;
 mod table;
+mod victims;
 
 pub use checking::check;
 pub use checked::Checked;

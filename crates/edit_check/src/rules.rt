@@ -1,14 +1,22 @@
 // The rules that changes have to keep to, row by row.
-ghost use Rattle.std.specs.Prelude.{◌≡◌, IfOk, None, take, ◌≤◌};
+ghost use Rattle.std.specs.Prelude.{◌≡◌, IfOk, None, not, is_some, filter};
+ghost use Rattle.std.specs.BTreeMap.{get};
+ghost use Rattle.std.specs.List.{find};
+ghost use Rattle.std.specs.Option.{option_map};
+ghost use Rattle.std.specs.Ordering.{nat_cmp};
+ghost use Rattle.dired_text.specs.Paths.{path_cmp};
+ghost use Rattle.edit_check.specs.declared.fault.CheckFault.TheVariants as faults;
+ghost use Rattle.edit_check.specs.Claims.{first_line, least_line, other_mode_line};
+ghost use Rattle.edit_check.specs.Sight.{is_other, number_at};
 ghost use Rattle.edit_check.specs.Found.{sight_in};
 ghost use Rattle.edit_check.specs.Tables.{AreFileModes, IsTable};
 ghost use Rattle.edit_check.specs.Rows.{written as written_path};
-ghost use Rattle.edit_check.specs.Refusals.{is_staged_at, first_fault};
+ghost use Rattle.edit_check.specs.Refusals.{is_staged_at};
 ghost use Rattle.edit_check.specs.Refusals as fault;
 ghost use Rattle.edit_check.specs.WellFormed.{LinesRise};
 
 use crate::CheckFault;
-use crate::claims::FileClaims;
+use crate::claims::{FileClaims, lesser};
 use crate::findings::Findings;
 use crate::fronts::fronts;
 use crate::places::place;
@@ -74,17 +82,18 @@ fn is_staged(path: &Option<Path>) -> bool
 }
 
 // Another line with the same written path.
-#[tactic(auto, using(crate::proofs::ClaimLemmas::two_to_one_found))]
+#[tactic(auto, using(crate::proofs::RuleLemmas::two_rule))]
 fn two_to_one(table: &Table, row: &Row, path: &Path) -> Option<CheckFault>
     requires table { IsTable table.now }
     requires path { path.now ≡ written_path row.now }
     ensures { result ≡ fault.two_to_one table.now.rows.items row.now }
 {
-    let other = table.writers.other(path, row.line)?;
-    Some(CheckFault::TwoToOne(row.line, other))
+    let other = table.writers.other(path, row.line);
+    other.map(|other| CheckFault::TwoToOne(row.line, other))
 }
 
 // Another line with another mode for the same file.
+#[tactic(auto, using(crate::proofs::RuleLemmas::mode_rule))]
 fn mode_clash(
     table: &Table,
     findings: &Findings,
@@ -94,15 +103,33 @@ fn mode_clash(
     requires file_modes { AreFileModes (sight_in findings.now) file_modes.now.claims table.now.rows.items }
     ensures { result ≡ fault.mode_clash (sight_in findings.now) table.now.rows.items row.now }
 {
-    let (Some(source), Some(mode)) = (&row.source, row.mode) else {
-        return None;
-    };
-    let number = findings.file_number(source)?;
-    let other = file_modes.other(number, mode as u32)?;
-    Some(CheckFault::ModeClash(row.line, other))
+    let number = file_number(findings, &row.source);
+    let other = other_mode(file_modes, number, row.mode);
+    other.map(|other| CheckFault::ModeClash(row.line, other))
+}
+
+/// The number of the file that was found at a path, where there is a path.
+pub fn file_number(findings: &Findings, path: &Option<Path>) -> Option<u64>
+    ensures { result ≡ number_at (sight_in findings.now) path.now }
+{
+    match path {
+        None => None,
+        Some(path) => findings.file_number(path),
+    }
+}
+
+// The first line with another mode for the file of this number.
+fn other_mode(file_modes: &FileClaims, number: Option<u64>, mode: Option<u16>) -> Option<u32>
+    ensures { result ≡ other_mode_line (λ n. get nat_cmp file_modes.now.claims n) number mode }
+{
+    match (number, mode) {
+        (Some(number), Some(mode)) => file_modes.other(number, mode as u32),
+        _ => None,
+    }
 }
 
 // A fault of what stands, or has to be made, above an elsewhere written path.
+#[tactic(auto, using(crate::proofs::RuleLemmas::far_rule, crate::proofs::RuleLemmas::near_rule))]
 fn parents(
     alloc: Global,
     table: &Table,
@@ -119,18 +146,53 @@ fn parents(
         return Ok(None);
     }
     let above = fronts(alloc, path)?;
-    if let Some(found) = above.iter().find(|front| findings.is_other(front)) {
-        return Ok(Some(CheckFault::ParentNotDirectory(row.line, found.copy()?)));
+    if let Some(fault) = no_directory(findings, row, &above)? {
+        return Ok(Some(fault));
     }
-    if let Some(other) = table.movers.least(&above) {
-        return Ok(Some(CheckFault::MovedParent(row.line, other)));
+    if let Some(fault) = moved_parent(table, row, &above) {
+        return Ok(Some(fault));
     }
-    let mut missing = above;
-    missing.retain(|front| !findings.stands(front));
-    match table.writers.least(&missing) {
-        Some(other) => Ok(Some(CheckFault::ParentTaken(row.line, other))),
+    Ok(parent_taken(table, findings, row, &above))
+}
+
+// The first of these paths at which something other than a directory stands.
+fn no_directory(
+    findings: &Findings,
+    row: &Row,
+    above: &[Path],
+) -> Result<Option<CheckFault>, Memory>
+    ensures { IfOk result (λ f. f ≡ option_map (faults.ParentNotDirectory row.now.line) (find (λ p. is_other ((sight_in findings.now).at p)) above.now)) }
+{
+    match above.iter().find(|front| findings.is_other(front)) {
         None => Ok(None),
+        Some(found) => Ok(Some(CheckFault::ParentNotDirectory(row.line, found.copy()?))),
     }
+}
+
+// The least line that moves one of these paths.
+fn moved_parent(table: &Table, row: &Row, above: &[Path]) -> Option<CheckFault>
+    ensures { result ≡ option_map (faults.MovedParent row.now.line) (least_line (λ p. first_line (get path_cmp table.now.movers.claims p)) None above.now) }
+{
+    let other = table.movers.least(above);
+    other.map(|other| CheckFault::MovedParent(row.line, other))
+}
+
+// The least line that writes one of these paths where nothing stands.
+fn parent_taken(
+    table: &Table,
+    findings: &Findings,
+    row: &Row,
+    above: &[Path],
+) -> Option<CheckFault>
+    ensures { result ≡ option_map (faults.ParentTaken row.now.line) (least_line (λ p. first_line (get path_cmp table.now.writers.claims p)) None (filter (λ p. not (is_some ((sight_in findings.now).at p))) above.now)) }
+{
+    let mut least = None;
+    for front in above {
+        if !findings.stands(front) {
+            least = lesser(least, table.writers.first(front));
+        }
+    }
+    least.map(|other| CheckFault::ParentTaken(row.line, other))
 }
 
 // A new place of more than 4,095 bytes.

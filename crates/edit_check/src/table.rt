@@ -6,7 +6,7 @@ ghost use Rattle.std.specs.BTreeSet.{contains};
 ghost use Rattle.dired_text.specs.Paths.{Names, path_cmp, parent};
 ghost use Rattle.edit_check.specs.Rows.{is_at, is_far as is_far_row, is_same_path, is_source, is_victim, is_removed, turn_of, turn_to, written as written_path};
 ghost use Rattle.edit_check.specs.Claims.{claimed_by};
-ghost use Rattle.edit_check.specs.Tables.{AreTurns, AreWriters, AreMovers, AreRemoved, IsTable, is_moved_by};
+ghost use Rattle.edit_check.specs.Tables.{AreTurns, AreWriters, AreMovers, AreNewPaths, AreRemoved, IsTable, is_moved_by};
 ghost use Rattle.edit_check.specs.WellFormed.{IsNoRoot};
 
 use crate::claims::PathClaims;
@@ -25,6 +25,8 @@ pub struct Table {
     pub writers: PathClaims,
     // the lines that give each source a new path
     pub movers: PathClaims,
+    // the new paths
+    pub new_paths: BTreeSet<Path>,
     // the paths that are to be removed
     pub removed: BTreeSet<Path>,
 }
@@ -138,24 +140,43 @@ fn note_mover(movers: &mut PathClaims, row: &Row) -> Result<(), Memory>
     Ok(())
 }
 
+// The new paths.
+fn new_paths_of(alloc: Global, rows: &[Row]) -> Result<BTreeSet<Path>, Memory>
+    ensures { IfOk result (λ s. AreNewPaths s rows.now) }
+{
+    let mut new_paths = BTreeSet::new(alloc);
+    for row in rows {
+        note_path(&mut new_paths, &row.to, true)?;
+    }
+    Ok(new_paths)
+}
+
 // The paths that are to be removed.
 fn removed_of(alloc: Global, rows: &[Row]) -> Result<BTreeSet<Path>, Memory>
     ensures { IfOk result (λ s. AreRemoved s rows.now) }
 {
     let mut removed = BTreeSet::new(alloc);
     for row in rows {
-        note_removed(&mut removed, row)?;
+        note_path(&mut removed, &row.source, row.removes)?;
     }
     Ok(removed)
 }
 
-// Notes the source of a row that removes it.
-fn note_removed(removed: &mut BTreeSet<Path>, row: &Row) -> Result<(), Memory>
-    ensures { OnOk result ((p : Names) → contains path_cmp removed.new p ≡ (contains path_cmp removed.old p || row.now.removes && is_at p row.now.source)) }
+// Notes a path, if there is one and it is asked for.
+fn note_path(paths: &mut BTreeSet<Path>, path: &Option<Path>, asked: bool) -> Result<(), Memory>
+    ensures { OnOk result ((p : Names) → contains path_cmp paths.new p ≡ (contains path_cmp paths.old p || asked && is_at p path.now)) }
 {
-    if let (Some(source), true) = (&row.source, row.removes) {
-        removed.insert(source.copy()?)?;
+    match path {
+        Some(path) if asked => add_path(paths, path),
+        _ => Ok(()),
     }
+}
+
+/// Puts a path into a set.
+pub fn add_path(paths: &mut BTreeSet<Path>, path: &Path) -> Result<(), Memory>
+    ensures { OnOk result ((p : Names) → contains path_cmp paths.new p ≡ (contains path_cmp paths.old p || is_same_path p path.now)) }
+{
+    paths.insert(path.copy()?)?;
     Ok(())
 }
 
@@ -170,6 +191,7 @@ impl Table {
             turns: turns_of(alloc, &rows)?,
             writers: writers_of(alloc, &rows)?,
             movers: movers_of(alloc, &rows)?,
+            new_paths: new_paths_of(alloc, &rows)?,
             removed: removed_of(alloc, &rows)?,
             rows,
         })
@@ -188,7 +210,7 @@ impl Table {
         requires { IsTable self.now }
         ensures { result ≡ is_victim self.now.rows.items path.now }
     {
-        self.writers.first(path).is_some() && !self.is_source(path)
+        self.new_paths.contains(path) && !self.is_source(path)
     }
 
     /// Whether the path is to be removed.

@@ -1,0 +1,37 @@
+use Rattle.std.proofs.Common.{rules, ◌≡◌, List, Option, Some, None, true, filter, not, is_some, sym, ◌∙◌, ap}
+use Rattle.std.specs.BTreeMap.{get}
+use Rattle.std.specs.List.{find}
+use Rattle.std.specs.Option.{option_map}
+use Rattle.dired_text.specs.Paths.{Names, path_cmp}
+use Rattle.edit_check.specs.declared.fault.CheckFault.{CheckFault}
+use Rattle.edit_check.specs.declared.fault.CheckFault.TheVariants.{ParentNotDirectory, MovedParent, ParentTaken}
+use Rattle.edit_check.specs.Claims.{first_line, least_line}
+use Rattle.edit_check.specs.Found.{sight_in}
+use Rattle.edit_check.specs.Place.{fronts}
+use Rattle.edit_check.specs.Rows.{is_far, written}
+use Rattle.edit_check.specs.Sight.{is_other}
+use Rattle.edit_check.proofs.RuleLemmas.{far_rule, second_of_three, third_of_three}
+use Rattle.edit_check.proofs.rules.parents.Goals as goal
+
+pub returns-in-Some-moved_parent : goal.returns-in-Some-moved_parent
+returns-in-Some-moved_parent c =
+    let row = c.args.row.now in
+    let table = c.args.table.now in
+    let sight = sight_in c.args.findings.now in
+    let far : is_far row ≡ true = search rules in
+    let above : c.in_ok-above.above.items ≡ fronts (written row) = search rules in
+    let none : option_map (ParentNotDirectory row.line) (find (λ p. is_other (sight.at p)) (fronts (written row))) ≡ None = search (rules, above) in
+    let moved : option_map (MovedParent row.line) (least_line (λ p. first_line (get path_cmp table.movers.claims p)) None (fronts (written row))) ≡ Some c.in-Some-moved_parent.fault = search (rules, above) in
+    second_of_three _ _ _ _ c.in-Some-moved_parent.fault (far_rule sight table row c.requires.table c.requires.lines far) none moved
+
+pub returns : goal.returns
+returns c =
+    let row = c.args.row.now in
+    let table = c.args.table.now in
+    let sight = sight_in c.args.findings.now in
+    let far : is_far row ≡ true = search rules in
+    let above : c.in_ok-above.above.items ≡ fronts (written row) = search rules in
+    let none : option_map (ParentNotDirectory row.line) (find (λ p. is_other (sight.at p)) (fronts (written row))) ≡ None = search (rules, above) in
+    let moved : option_map (MovedParent row.line) (least_line (λ p. first_line (get path_cmp table.movers.claims p)) None (fronts (written row))) ≡ None = search (rules, above) in
+    let taken : c.parent_taken.result ≡ option_map (ParentTaken row.line) (least_line (λ p. first_line (get path_cmp table.writers.claims p)) None (filter (λ p. not (is_some (sight.at p))) (fronts (written row)))) = search (rules, above) in
+    taken ∙ third_of_three _ _ _ _ (far_rule sight table row c.requires.table c.requires.lines far) none moved
