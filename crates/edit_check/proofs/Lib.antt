@@ -10,3 +10,5 @@ pub mod LeastLemmas
 pub mod ClaimLemmas
 pub mod SameSight
 pub mod RuleLemmas
+pub mod LookLemmas
+pub mod LookingLemmas

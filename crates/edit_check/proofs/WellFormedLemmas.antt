@@ -124,7 +124,7 @@ none_in : (names : List (List ℕ)) → Decides (is_none_in names) (names ≡ []
 none_in [] = (λ e. refl, λ e. refl)
 none_in (n ∷ names) = (λ e. absurd (false≢true e), λ e. absurd cc)
 
-empty_decides : (t : FileTree) (p : Names) → Decides (is_none_in (names_in t p)) (IsEmptyAt t p)
+pub empty_decides : (t : FileTree) (p : Names) → Decides (is_none_in (names_in t p)) (IsEmptyAt t p)
 empty_decides t p = (λ e. (names_end t p).0 ((none_in (names_in t p)).0 e), λ empty. (none_in (names_in t p)).1 ((names_end t p).1 empty))
 
 removable_row : (t : FileTree) → IsTree t → (r : Row) → (not_empty (sight_of t) r ≡ None) ↔ ((p : Names) (n : List ℕ) → r.removes ≡ true → r.source ≡ Some p → IsAbsent t (p ++ n ∷ []))

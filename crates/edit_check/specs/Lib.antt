@@ -8,6 +8,7 @@ pub mod Counting
 pub mod Claims
 pub mod Tables
 pub mod Found
+pub mod Looks
 pub mod Checks
 pub mod Facts
 pub mod Laws

@@ -21,7 +21,7 @@ use tree_core::{Changes, Confirmed};
 /// in each tree that has these findings.
 #[derive(Drop)]
 pub struct Checked {
-    alloc: Global,
+    pub(crate) alloc: Global,
     pub(crate) changes: Changes,
     pub(crate) confirmed: Confirmed,
     pub(crate) findings: Findings,

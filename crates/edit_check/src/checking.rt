@@ -1,18 +1,27 @@
 // The check of changes against a tree.
-ghost use Rattle.std.specs.Prelude.{◌≡◌, IfOk, IfErr, OnOk, MatchResult};
+ghost use Rattle.std.specs.Prelude.{◌≡◌, ◌⊎◌, IfOk, IfErr, OnOk, MatchResult, None, Some};
 ghost use Rattle.tree_core.specs.FileTree.{IsFile};
 ghost use Rattle.tree_core.specs.History.{current_tree};
 ghost use Rattle.edit_check.specs.Rows.{rows as rows_in};
 ghost use Rattle.edit_check.specs.Sight.{sight_of};
-ghost use Rattle.edit_check.specs.Refusals.{refusal};
+ghost use Rattle.edit_check.specs.Refusals.{first_fault, refusal, staging, stale};
+ghost use Rattle.edit_check.specs.Tables.{IsTable};
+ghost use Rattle.edit_check.specs.declared.fault.CheckFault.TheVariants as faults;
 ghost use Rattle.edit_check.specs.Counting.{counts_of};
 ghost use Rattle.edit_check.specs.WellFormed.{AreAsked, CanBeAsked, CanBeMade};
-ghost use Rattle.edit_check.specs.Found.{HasFindings, FaultsBy, IsFreeOr, IsLookAt, failed_call};
+ghost use Rattle.edit_check.specs.Found.{HasFindings, FaultsBy, IsCovered, IsFreeOr, IsLookAt, failed_call, sight_in};
 ghost use Rattle.edit_check.specs.Checks.{FoundBy};
 
+use crate::counting::counts;
+use crate::deciding::first_refusal;
+use crate::findings::Findings;
+use crate::looking::look_for_rows;
+use crate::row::rows_of;
+use crate::table::Table;
 use crate::{CheckFault, Checked};
+use dired_text::Memory;
 use std::alloc::Global;
-use tree_core::{Changes, Confirmed, Tree};
+use tree_core::{Changes, Confirmed, Items, Tree};
 
 /// Whether changes can be made in a tree: they are well formed, what they replace is confirmed, and the bytes of their paths are
 /// not too many. It changes nothing in the tree.
@@ -43,5 +52,55 @@ pub fn check<T: Tree>(
     ensures faults { IfErr result (λ fault. FaultsBy (failed_call fault) (T.faults tree.old) (T.faults tree.new)) }
     ensures looks { IfErr result (λ fault. IsLookAt (failed_call fault)) }
 {
-    Err(CheckFault::Memory)
+    let rows = rows_of(alloc, &changes)?;
+    let findings = look_for_rows(alloc, tree, &rows)?;
+    let table = Table::new(alloc, rows)?;
+    decide(alloc, table, findings, changes, confirmed)
+}
+
+// Whether the changes can be made, by what was found. No line is stale, and nothing stands at the staging directory.
+fn decide(
+    alloc: Global,
+    table: Table,
+    findings: Findings,
+    changes: Changes,
+    confirmed: &Confirmed,
+) -> Result<Checked, CheckFault>
+    requires table { IsTable table }
+    requires rows { table.rows.items ≡ rows_in changes }
+    requires asked { AreAsked changes }
+    requires covered { IsCovered findings table.rows.items }
+    requires unstaged { (sight_in findings).at staging ≡ None }
+    requires fresh { first_fault (stale (sight_in findings)) table.rows.items ≡ None }
+    ensures refused { IfErr result (λ fault. (fault ≡ faults.Memory) ⊎ (refusal (sight_in findings) confirmed.now table.rows.items ≡ Some fault)) }
+    ensures keeps { IfOk result (λ c. (c.changes ≡ changes) × (c.confirmed ≡ confirmed.now) × (c.findings ≡ findings)) }
+    ensures taken { OnOk result (refusal (sight_in findings) confirmed.now table.rows.items ≡ None) }
+    ensures counts { IfOk result (λ c. c.counts ≡ counts_of (sight_in findings) table.rows.items) }
+{
+    if let Some(fault) = first_refusal(alloc, &table, &findings, confirmed)? {
+        return Err(fault);
+    }
+    let counts = counts(alloc, &table, &findings)?;
+    Ok(Checked {
+        alloc,
+        changes,
+        confirmed: copy_confirmed(alloc, confirmed)?,
+        findings,
+        table,
+        counts,
+    })
+}
+
+// An equal list of confirmations.
+fn copy_confirmed(alloc: Global, confirmed: &Confirmed) -> Result<Confirmed, Memory>
+    ensures { IfOk result (λ c. c ≡ confirmed.now) }
+{
+    let mut paths = Vec::with_capacity(alloc, confirmed.paths.as_slice().len())?;
+    for path in confirmed.paths.as_slice() {
+        paths.push(path.copy()?)?;
+    }
+    Ok(Confirmed {
+        all: confirmed.all,
+        paths: Items::from_vec(paths),
+    })
 }

@@ -1,9 +1,9 @@
 //! Whether changes of a tree are well formed, and where they take each path.
 #![tactic(auto)]
 
-mod checking;
 mod bytes;
 mod checked;
+mod checking;
 mod claims;
 mod counting;
 mod counts;
@@ -12,6 +12,8 @@ mod fault;
 mod findings;
 mod fronts;
 mod laws;
+mod look;
+mod looking;
 mod places;
 mod row;
 mod rules;
