@@ -12,3 +12,4 @@ pub mod SameSight
 pub mod RuleLemmas
 pub mod LookLemmas
 pub mod LookingLemmas
+pub mod CheckLemmas
