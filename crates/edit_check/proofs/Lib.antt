@@ -13,3 +13,5 @@ pub mod RuleLemmas
 pub mod LookLemmas
 pub mod LookingLemmas
 pub mod CheckLemmas
+pub mod BytesLemmas
+pub mod CountLemmas

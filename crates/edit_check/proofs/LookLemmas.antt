@@ -72,6 +72,15 @@ told_found {f} {s} p told is =
     let found = some_is (get path_cmp f.found p) is in
     told.at p found.0 found.1 ∙ sym (ap (λ (o : Option (Option Seen)). unwrap_or o None) found.1)
 
+pub told_more : {f g : Findings} {s : Sight} (p : Names) (o : Option Seen) → HasFindings f s → HasOneMore p o f g → s.at p ≡ o → HasFindings g s
+told_more {f} {g} {s} p o told more is = record {
+  at = λ q x e. elim (more.found q x e) [
+    | inl new ↦ ap s.at new.0 ∙ is ∙ sym new.1
+    | inr old ↦ told.at q x old
+  ];
+  empty = λ q b e. told.empty q b (more.empty q b e);
+}
+
 pub closed_more : {f g : Findings} (p : Names) (o : Option Seen) → IsClosed f → HasGrown f g → HasOneMore p o f g → ((u : Names) → IsAbove u p → IsSeen f u) → IsClosed g
 closed_more {f} {g} p o closed grown more above = record {
   above = λ q u long is over.
@@ -129,7 +138,7 @@ nothing_below t {f} p dir in_dir tree some is told looked found other =
     let l = last_name p some in
     let front : dir ≡ l.0 = is ∙ ap parent l.2 ∙ parent-push l.0 l.1 in
     none_if (get_in t p) (λ stands.
-        let stands_dir : IsDir t l.0 = tree.parents l.0 l.1 (subst (λ (q : Names). IsTrue (is_some (get_in t q))) l.2 stands) in
+    let stands_dir : IsDir t l.0 = tree.parents l.0 l.1 (subst (λ (q : Names). IsTrue (is_some (get_in t q))) l.2 stands) in
     both_ways (is_dir ((sight_of t).at dir)) (ap is_dir (told_found dir told looked) ∙ sym found ∙ other) ((dir_decides t dir).1 (subst (IsDir t) (sym front) stands_dir)))
 
 -- where the parent was looked at, and all above that, so was all above the path

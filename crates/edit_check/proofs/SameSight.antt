@@ -1,9 +1,10 @@
 -- Refusals and counts depend only on what was looked at.
-use Rattle.std.proofs.Common.{◌≡◌, ℕ, ◌+◌, Bool, true, false, cond, not, ◌&&◌, List, [], map, length, refl, sym, ◌∙◌, ap, subst, Option, Some, None, Contains, option_map, is_some, IsTrue}
+use Rattle.std.proofs.Common.{◌≡◌, ℕ, ◌+◌, Bool, true, false, cond, not, ◌&&◌, List, [], count_by, length, refl, sym, ◌∙◌, ap, subst, Option, Some, None, Contains, option_map, is_some, IsTrue}
 use Rattle.std.specs.BTreeMap.{get}
-use Rattle.std.specs.FinMap.{FinMap, from_entries, len}
+use Rattle.std.specs.List.{flat_map}
 use Rattle.std.specs.Option.{option_or, unwrap_or}
 use Rattle.std.proofs.lemmas.Bool.{false≢true}
+use Rattle.std.proofs.lemmas.List.Sums.{length-filter}
 use Rattle.dired_text.specs.Paths.{Names, path_cmp, path_bytes}
 use Rattle.tree_core.specs.declared.edit.Shown.{Shown}
 use Rattle.tree_core.specs.declared.changes.Confirmed.{Confirmed}
@@ -17,7 +18,7 @@ use Rattle.edit_check.specs.Place.{IsAbove, is_above, fronts}
 use Rattle.edit_check.specs.Rows.{is_source, written, written_of, is_far, is_far_of}
 use Rattle.edit_check.specs.Sight.{Sight, is_dir, is_other, number_of, number_at}
 use Rattle.edit_check.specs.Refusals.{staging, first_fault, fault_if, is_as_shown, is_stale_at, stale, reserved, two_to_one, are_same, differ, mode_clash, parent_not_directory, moved_parent, parent_taken, path_too_long, parents, across, victim_at, victim_of, if_dir, then_at, directory_replaced, if_full, not_empty, if_unconfirmed, unconfirmed, total, missing_above, own_bytes, row_bytes, changed_bytes, too_many_bytes, ill_formed, refusal}
-use Rattle.edit_check.specs.Counting.{rows_where, missing_set, counts_of}
+use Rattle.edit_check.specs.Counting.{different, counts_of}
 use Rattle.edit_check.specs.Found.{sight_in, HasFindings, IsSeen, IsCovered}
 use Rattle.edit_check.proofs.AboveLemmas.{above_decides, fronts_above}
 use Rattle.edit_check.proofs.AlikeLemmas.{find_alike, line_where_alike, filter_alike, flat_map_alike, total_alike, fault_alike}
@@ -201,19 +202,17 @@ refusal_same s u confirmed rs all =
     ∙ ap (λ (o : Option CheckFault). option_or (ill_formed u rs) (option_or o (too_many_bytes (changed_bytes s rs)))) (all_unconfirmed_same s u confirmed rs all)
     ∙ ap (λ (n : ℕ). option_or (ill_formed u rs) (option_or (first_fault (unconfirmed u confirmed rs) rs) (too_many_bytes n))) (changed_bytes_same s u rs all)
 
-replaced_same : (s u : Sight) (rs : List Row) → AgreeOn s u rs → rows_where (λ (r : Row). is_some (victim_of s rs r)) rs ≡ rows_where (λ (r : Row). is_some (victim_of u rs r)) rs
-replaced_same s u rs all = ap (λ (l : List Row). length l) (filter_alike _ _ rs (λ r c. ap (λ (o : Option Names). is_some o) (victim_same s u rs r (all.rows r c))))
+count_alike : (f g : Row → Bool) (rs : List Row) → ((r : Row) → Contains rs r → f r ≡ g r) → count_by f rs ≡ count_by g rs
+count_alike f g rs same = sym (length-filter f rs) ∙ ap (λ (l : List Row). length l) (filter_alike f g rs same) ∙ length-filter g rs
 
-missing_set_same : (s u : Sight) (rs : List Row) → AgreeOn s u rs → missing_set s rs ≡ missing_set u rs
-missing_set_same s u rs all =
-    let set : List Names → FinMap path_cmp ℕ = λ ps. from_entries (map (λ (p : Names). (p, 0)) ps) in
-    ap set (flat_map_alike _ _ rs (λ r c. missing_same s u r (all.rows r c)))
+replaced_same : (s u : Sight) (rs : List Row) → AgreeOn s u rs → count_by (λ (r : Row). is_some (victim_of s rs r)) rs ≡ count_by (λ (r : Row). is_some (victim_of u rs r)) rs
+replaced_same s u rs all = count_alike _ _ rs (λ r c. ap (λ (o : Option Names). is_some o) (victim_same s u rs r (all.rows r c)))
 
 counts_same : (s u : Sight) (rs : List Row) → AgreeOn s u rs → counts_of s rs ≡ counts_of u rs
 counts_same s u rs all =
-    let counts : ℕ → FinMap path_cmp ℕ → Counts = λ replaced made. record (counts_of s rs) { replaced = replaced; made = len made } in
-    ap (λ (n : ℕ). counts n (missing_set s rs)) (replaced_same s u rs all)
-    ∙ ap (counts (rows_where (λ (r : Row). is_some (victim_of u rs r)) rs)) (missing_set_same s u rs all)
+    let counts : ℕ → List Names → Counts = λ replaced missing. record (counts_of s rs) { replaced = replaced; made = different missing } in
+    ap (λ (n : ℕ). counts n (flat_map (missing_above s) rs)) (replaced_same s u rs all)
+    ∙ ap (counts (count_by (λ (r : Row). is_some (victim_of u rs r)) rs)) (flat_map_alike _ _ rs (λ r c. missing_same s u r (all.rows r c)))
 
 -- what is found of a tree decides these of its changes
 pub ill_formed_seen : (f : Findings) (s : Sight) (rs : List Row) → HasFindings f s → IsCovered f rs → ill_formed (sight_in f) rs ≡ ill_formed s rs

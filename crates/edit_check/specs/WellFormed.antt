@@ -136,6 +136,17 @@ pub record CanBeAsked (is_file : Names → Type 0) (changes : Changes) : Type 0 
   pub lawful : AreLawful is_file changes
   pub count : length (rows changes) ≤ max_changes
 
--- whether files stand at the paths of hard links
+-- what can be asked for, whatever stands in the tree
 abbrev pub AreAsked : Changes → Type 0
 AreAsked changes = CanBeAsked (λ p. Unit {0}) changes
+
+abbrev pub IsFileFor : (Names → Type 0) → Fresh → Type 0
+IsFileFor is_file (fresh.Link target) = Unit {0}
+IsFileFor is_file (fresh.File bytes mode) = Unit {0}
+IsFileFor is_file (fresh.Same path) = is_file path
+
+-- files stand at the paths of hard links
+abbrev pub LinksHaveFiles : (Names → Type 0) → Changes → Type 0
+LinksHaveFiles is_file (Edits edits) = Unit {0}
+LinksHaveFiles is_file (Removals removals) = Unit {0}
+LinksHaveFiles is_file (Creations creations) = All (λ (c : Creation). IsFileFor is_file c.what) creations

@@ -8,7 +8,7 @@ ghost use Rattle.edit_check.specs.Refusals.{first_fault, refusal, staging, stale
 ghost use Rattle.edit_check.specs.Tables.{IsTable};
 ghost use Rattle.edit_check.specs.declared.fault.CheckFault.TheVariants as faults;
 ghost use Rattle.edit_check.specs.Counting.{counts_of};
-ghost use Rattle.edit_check.specs.WellFormed.{AreAsked, CanBeAsked, CanBeMade};
+ghost use Rattle.edit_check.specs.WellFormed.{AreAsked, CanBeMade, LinksHaveFiles};
 ghost use Rattle.edit_check.specs.Found.{HasFindings, FaultsBy, IsCovered, IsFreeOr, IsLookAt, failed_call, sight_in};
 ghost use Rattle.edit_check.specs.Checks.{FoundBy};
 
@@ -36,7 +36,7 @@ pub fn check<T: Tree>(
     confirmed: &Confirmed,
 ) -> Result<Checked, CheckFault>
     requires asked { AreAsked changes }
-    requires files { T.Tells → CanBeAsked (IsFile (current_tree (T.history tree.old))) changes }
+    requires files { T.Tells → LinksHaveFiles (IsFile (current_tree (T.history tree.old))) changes }
 
     ensures taken { T.Tells → OnOk result (CanBeMade (current_tree (T.history tree.old)) confirmed.now (rows_in changes)) }
     ensures refused { T.Tells → IfErr result (λ fault. IsFreeOr fault (refusal (sight_of (current_tree (T.history tree.old))) confirmed.now (rows_in changes))) }

@@ -5,7 +5,7 @@ use Rattle.dired_text.specs.Paths.{Names, parent}
 use Rattle.tree_core.specs.History.{History, current_tree}
 use Rattle.edit_check.specs.Place.{IsAbove}
 use Rattle.edit_check.specs.Found.{IsSeen}
-use Rattle.edit_check.proofs.LookLemmas.{nothing_below, seen_above, seen_stays}
+use Rattle.edit_check.proofs.LookLemmas.{grown_on, nothing_below, seen_above, seen_stays}
 use Rattle.edit_check.proofs.findings.Findings.+see.Goals as goal
 
 pub see_in-requires-2-clause-below : goal.see_in-requires-2-clause-below
@@ -28,3 +28,6 @@ returns-2-clause-above g t c =
     let dir : c.in_ok-dir.dir ≡ parent c.args.path.now = search rules in
     let above : (u : Names) → IsAbove u c.args.path.now → IsSeen c.see_in-2.new.self u = λ u over. seen_stays u c.see_in-2.ensures.grown (seen_above c.see.new.self c.args.path.now c.in_ok-dir.dir u some dir c.in_ok-in_dir.ensures.seen c.in_ok-in_dir.ensures.above over) in
     on_ok_weaker c.see_in-2.result (λ _. above) c.see_in-2.ensures.seen
+
+pub returns-2-clause-grown : goal.returns-2-clause-grown
+returns-2-clause-grown g t c = grown_on c.see.ensures.grown c.see_in-2.ensures.grown
