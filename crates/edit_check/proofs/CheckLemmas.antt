@@ -1,7 +1,6 @@
 -- What a check hands on, by what was found.
-use Rattle.std.proofs.Common.{◌≡◌, ◌⊎◌, ℕ, Bool, true, false, cond, List, [], ◌∷◌, Option, Some, None, is_some, refl, sym, ◌∙◌, ap, inl, inr, IfErr, Result, Ok, Err, OnOk, IfOk, MatchResult, subst}
+use Rattle.std.proofs.Common.{◌≡◌, ◌⊎◌, Bool, true, false, cond, List, [], ◌∷◌, Option, Some, None, refl, sym, ◌∙◌, ap, inl, inr, IfErr, Result, Ok, Err, IfOk, MatchResult, subst}
 use Rattle.std.specs.Option.{option_map, option_or}
-use Rattle.dired_text.specs.Paths.{Names}
 use Rattle.tree_core.specs.declared.node.CallName.{CallName}
 use Rattle.tree_core.specs.declared.faults.Faults.{Faults}
 use Rattle.tree_core.specs.declared.changes.Confirmed.{Confirmed}
@@ -13,7 +12,7 @@ use Rattle.edit_check.specs.declared.fault.CheckFault.TheVariants as fault
 use Rattle.edit_check.specs.Found.{sight_in, HasFindings, IsCovered, IsFreeOr, IsLookAt, FaultsBy, failed_call}
 use Rattle.edit_check.specs.Checks.{FoundBy}
 use Rattle.edit_check.specs.Sight.{Sight, sight_of}
-use Rattle.edit_check.specs.Refusals.{first_fault, fault_if, refusal, stale, reserved, two_to_one, mode_clash, parents, path_too_long, across, directory_replaced, not_empty, unconfirmed, too_many_bytes, changed_bytes}
+use Rattle.edit_check.specs.Refusals.{first_fault, fault_if, refusal, parents, across, changed_bytes}
 use Rattle.edit_check.specs.Rows.{is_far}
 use Rattle.edit_check.specs.WellFormed.{CanBeMade}
 use Rattle.edit_check.proofs.SameSight.{refusal_seen}
@@ -61,12 +60,12 @@ pub refusal_names_no_call : (s : Sight) (confirmed : Confirmed) (rs : List Row) 
 refusal_names_no_call s confirmed rs =
     or_names _ _
     (or_names _ _ (if_names _ fault.Pending refl)
-        (or_names _ _ (first_names _ rs (λ r. if_names _ (fault.Stale r.line) refl))
-        (or_names _ _ (first_names _ rs (across_names s rs))
-        (or_names _ _ (first_names _ rs (λ r. map_names (fault.TargetIsDirectory r.line) _ (λ a. refl)))
-        (first_names _ rs (λ r. cond_names r.removes _ (map_names (fault.NotEmpty r.line) _ (λ a. refl))))))))
+    (or_names _ _ (first_names _ rs (λ r. if_names _ (fault.Stale r.line) refl))
+    (or_names _ _ (first_names _ rs (across_names s rs))
+    (or_names _ _ (first_names _ rs (λ r. map_names (fault.TargetIsDirectory r.line) _ (λ a. refl)))
+    (first_names _ rs (λ r. cond_names r.removes _ (map_names (fault.NotEmpty r.line) _ (λ a. refl))))))))
     (or_names _ _ (first_names _ rs (λ r. map_names (fault.Unconfirmed r.line) _ (λ a. refl)))
-        (if_names _ (fault.PathBytes (changed_bytes s rs)) refl))
+    (if_names _ (fault.PathBytes (changed_bytes s rs)) refl))
 
 -- ---- What a decision by findings says of the tree that has them.
 

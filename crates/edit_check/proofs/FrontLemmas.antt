@@ -1,7 +1,7 @@
 -- The first names of a path.
 use Rattle.std.proofs.Common.{◌≡◌, ◌≤◌, ◌<◌, ◌+◌, ℕ, zero, suc, List, [], ◌∷◌, ◌++◌, length, take, map, refl, ap, sym, ◌∙◌, arith, length-append, subst}
 use Rattle.std.proofs.lemmas.List.{take-map, map-append, length-map}
-use Rattle.dired_text.specs.Paths.{Names, joined, slashed, path_bytes, slash}
+use Rattle.dired_text.specs.Paths.{Names, slashed, path_bytes}
 use Rattle.edit_check.specs.Place.{fronts}
 
 -- one name more
@@ -34,7 +34,7 @@ stepped (suc k) (n ∷ p) less =
     let add : Names → Names = λ q. n ∷ q in
     ap (λ (qs : List Names). [] ∷ qs)
     (take-map add (suc k) (fronts p) ∙ ap (λ (qs : List Names). map add qs) later ∙ map-append add (take k (fronts p)) (take k p ∷ [])
-        ∙ ap (λ (qs : List Names). qs ++ (n ∷ take k p) ∷ []) (sym (take-map add k (fronts p))))
+    ∙ ap (λ (qs : List Names). qs ++ (n ∷ take k p) ∷ []) (sym (take-map add k (fronts p))))
 
 pub next_front : (k : ℕ) (p : Names) → k < length p → take (k + 1) (fronts p) ≡ take k (fronts p) ++ take k p ∷ []
 next_front k p less =

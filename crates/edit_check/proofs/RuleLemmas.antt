@@ -1,10 +1,9 @@
 -- The rules, by what a table finds.
-use Rattle.std.proofs.Common.{◌≡◌, ◌⊎◌, ℕ, Bool, true, false, cond, not, ◌&&◌, ◌||◌, filter, List, [], ◌∷◌, Option, Some, None, is_some, refl, sym, ◌∙◌, ap, inl, inr}
+use Rattle.std.proofs.Common.{◌≡◌, ℕ, true, false, not, filter, List, Option, Some, None, is_some, refl, sym, ◌∙◌, ap}
 use Rattle.std.specs.BTreeMap.{BTreeMap, get}
-use Rattle.std.specs.Option.{option_map, option_or, unwrap_or}
-use Rattle.std.specs.List.{find, list_any}
+use Rattle.std.specs.Option.{option_map, option_or}
+use Rattle.std.specs.List.{find}
 use Rattle.std.specs.Ordering.{nat_cmp}
-use Rattle.std.proofs.lemmas.Bool.{cases_Bool}
 use Rattle.dired_text.specs.Paths.{Names, path_cmp}
 use Rattle.edit_check.specs.declared.row.Row.{Row}
 use Rattle.edit_check.specs.declared.table.Table.{Table}
@@ -12,9 +11,9 @@ use Rattle.edit_check.specs.declared.claims.Claim.{Claim}
 use Rattle.edit_check.specs.declared.fault.CheckFault.{CheckFault}
 use Rattle.edit_check.specs.declared.fault.CheckFault.TheVariants.{TwoToOne, ModeClash, ParentNotDirectory, MovedParent, ParentTaken}
 use Rattle.edit_check.specs.Place.{fronts}
-use Rattle.edit_check.specs.Rows.{is_at, is_far, is_same_path, is_source, is_victim, is_written, row_from, written, line_where}
+use Rattle.edit_check.specs.Rows.{is_far, written}
 use Rattle.edit_check.specs.Sight.{Sight, is_other, number_at}
-use Rattle.edit_check.specs.Claims.{claims_behind, first_line, other_line, least_line, other_mode_line}
+use Rattle.edit_check.specs.Claims.{first_line, other_line, least_line, other_mode_line}
 use Rattle.edit_check.specs.Tables.{IsTable, AreFileModes}
 use Rattle.edit_check.specs.Refusals.{two_to_one, mode_clash, moved_parent, parent_not_directory, parent_taken, parents}
 use Rattle.edit_check.specs.WellFormed.{LinesRise}
@@ -43,7 +42,7 @@ moved_rule table r is rise =
 
 pub taken_rule : (sight : Sight) (table : Table) (r : Row) → IsTable table → LinesRise table.rows.items
     → parent_taken sight table.rows.items r
-        ≡ option_map (ParentTaken r.line) (least_line (λ (p : Names). first_line (get path_cmp table.writers.claims p)) None (filter (λ (p : Names). not (is_some (sight.at p))) (fronts (written r))))
+    ≡ option_map (ParentTaken r.line) (least_line (λ (p : Names). first_line (get path_cmp table.writers.claims p)) None (filter (λ (p : Names). not (is_some (sight.at p))) (fronts (written r))))
 taken_rule sight table r is rise =
     parent_taken_found sight table.rows.items r rise
     ∙ ap (option_map (ParentTaken r.line)) (least_alike _ _ None (filter (λ (p : Names). not (is_some (sight.at p))) (fronts (written r))) (λ p. sym (ap first_line (is.writers p) ∙ first_claimed _ _ table.rows.items)))
@@ -53,13 +52,13 @@ near_rule sight rs r near = rw near refl
 
 pub far_rule : (sight : Sight) (table : Table) (r : Row) → IsTable table → LinesRise table.rows.items → is_far r ≡ true
     → parents sight table.rows.items r
-        ≡ option_or (option_map (ParentNotDirectory r.line) (find (λ (p : Names). is_other (sight.at p)) (fronts (written r))))
-        (option_or (option_map (MovedParent r.line) (least_line (λ (p : Names). first_line (get path_cmp table.movers.claims p)) None (fronts (written r))))
-            (option_map (ParentTaken r.line) (least_line (λ (p : Names). first_line (get path_cmp table.writers.claims p)) None (filter (λ (p : Names). not (is_some (sight.at p))) (fronts (written r))))))
+    ≡ option_or (option_map (ParentNotDirectory r.line) (find (λ (p : Names). is_other (sight.at p)) (fronts (written r))))
+    (option_or (option_map (MovedParent r.line) (least_line (λ (p : Names). first_line (get path_cmp table.movers.claims p)) None (fronts (written r))))
+    (option_map (ParentTaken r.line) (least_line (λ (p : Names). first_line (get path_cmp table.writers.claims p)) None (filter (λ (p : Names). not (is_some (sight.at p))) (fronts (written r))))))
 far_rule sight table r is rise far =
     rw far
     (ap (λ (m : Option CheckFault). option_or (parent_not_directory sight r) (option_or m (parent_taken sight table.rows.items r))) (moved_rule table r is rise)
-        ∙ ap (λ (t : Option CheckFault). option_or (parent_not_directory sight r) (option_or (option_map (MovedParent r.line) (least_line (λ (p : Names). first_line (get path_cmp table.movers.claims p)) None (fronts (written r)))) t)) (taken_rule sight table r is rise))
+    ∙ ap (λ (t : Option CheckFault). option_or (parent_not_directory sight r) (option_or (option_map (MovedParent r.line) (least_line (λ (p : Names). first_line (get path_cmp table.movers.claims p)) None (fronts (written r)))) t)) (taken_rule sight table r is rise))
 
 -- of three faults, one behind another, the second, where the first is none,
 pub second_of_three : {A : Type 0} (whole a b c : Option A) (x : A) → whole ≡ option_or a (option_or b c) → a ≡ None → b ≡ Some x → Some x ≡ whole

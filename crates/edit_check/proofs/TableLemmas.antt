@@ -1,16 +1,15 @@
 -- Paths in maps, and what is written at them.
-use Rattle.std.proofs.Common.{◌≡◌, ◌≢◌, ◌⊎◌, suc, ℕ, Bool, true, false, ◌||◌, cond, List, [], ◌∷◌, ◌++◌, take, length, Option, Some, None, refl, sym, ◌∙◌, ap, subst, arith, ◌≤◌, ◌-◌, slice_index_or, is_some, if◌then◌else◌, IsTrue}
+use Rattle.std.proofs.Common.{◌≡◌, ◌⊎◌, suc, ℕ, Bool, true, false, ◌||◌, cond, List, [], ◌∷◌, length, Option, Some, None, refl, sym, ◌∙◌, ap, subst, arith, ◌≤◌, ◌-◌, slice_index_or, is_some, if◌then◌else◌, IsTrue}
 use Rattle.std.specs.Option.{option_or}
 use Rattle.std.specs.declared.cmp.Ordering.{Ordering}
 use Rattle.std.specs.declared.cmp.Ordering.TheVariants.{Less, Equal, Greater}
-use Rattle.std.specs.Ordering.{is_eq, eq_by_cmp}
+use Rattle.std.specs.Ordering.{is_eq}
 use Rattle.std.specs.Cmp.{tied_itself}
 use Rattle.std.proofs.lemmas.Bool.{cases_Bool}
 use Rattle.std.proofs.Common.{inl, inr}
-use Rattle.dired_text.specs.Paths.{Names, path_cmp, parent}
+use Rattle.dired_text.specs.Paths.{Names, path_cmp}
 use Rattle.dired_text.proofs.PathLemmas.{path_cmp-total, path_cmp-exact}
 use Rattle.edit_check.specs.declared.row.Turn.{Turn}
-use Rattle.edit_check.specs.declared.row.Turn.TheVariants.{Stays, Named, Sent}
 use Rattle.edit_check.specs.Rows.{is_same_path, is_at, turn_to, last_name}
 
 tied : (o : Ordering) → is_eq o ≡ true → o ≡ Equal

@@ -1,5 +1,5 @@
 -- What a check hands on.
-use Rattle.std.specs.Prelude.{◌≡◌, ℕ, Bool, nat_le, ◌&&◌, List, Option, Some, None, if◌then◌else◌}
+use Rattle.std.specs.Prelude.{◌≡◌, nat_le, ◌&&◌, List, Option, Some, None, if◌then◌else◌}
 use Rattle.dired_text.specs.Paths.{Names, path_bytes, max_path_bytes}
 use Rattle.tree_core.specs.declared.node.CallName.{CallName}
 use Rattle.tree_core.specs.FileTree.{FileTree}

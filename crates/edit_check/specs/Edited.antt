@@ -1,5 +1,5 @@
 -- The edited tree: one substitution on the map, without an order of work.
-use Rattle.std.specs.Prelude.{◌≡◌, ◌≢◌, ◌⊎◌, ℕ, Bool, true, false, List, [], ◌∷◌, ◌++◌, map, filter, Option, Some, None, if◌then◌else◌, is_some, IsTrue, not, ◌&&◌, ◌||◌, ◌==◌, unwrap_or}
+use Rattle.std.specs.Prelude.{◌≡◌, ◌⊎◌, ℕ, Bool, true, false, List, [], ◌∷◌, ◌++◌, map, filter, Option, Some, None, if◌then◌else◌, is_some, IsTrue, not, ◌&&◌, ◌||◌, ◌==◌, unwrap_or}
 use Rattle.std.specs.List.{flat_map, zip, filter_map, AllZip, AllPairs}
 use Rattle.std.specs.Option.{option_map}
 use Rattle.std.specs.FinMap.{find, get, from_entries, entries}

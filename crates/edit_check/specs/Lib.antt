@@ -11,4 +11,5 @@ pub mod Found
 pub mod Looks
 pub mod Checks
 pub mod Facts
+pub mod StandFor
 pub mod Laws

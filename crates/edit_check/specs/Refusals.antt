@@ -1,5 +1,5 @@
 -- Which changes are refused, and by which fault: the first of the list below, at its least line.
-use Rattle.std.specs.Prelude.{◌≡◌, ℕ, ◌==◌, ◌+◌, nat_lt, Bool, true, false, List, [], ◌∷◌, map, filter, Option, Some, None, if◌then◌else◌, is_some, not, ◌&&◌, ◌||◌, codes}
+use Rattle.std.specs.Prelude.{ℕ, ◌==◌, ◌+◌, nat_lt, Bool, true, false, List, [], ◌∷◌, filter, Option, Some, None, if◌then◌else◌, is_some, not, ◌&&◌, ◌||◌, codes}
 use Rattle.std.specs.List.{list_any, find}
 use Rattle.std.specs.Option.{option_map, option_or}
 use Rattle.std.specs.Str.{bytes_eq}
@@ -14,7 +14,7 @@ use Rattle.edit_check.specs.declared.sight.Seen.TheVariants.{Dir, Link, File}
 use Rattle.edit_check.specs.declared.fault.CheckFault.{CheckFault}
 use Rattle.edit_check.specs.declared.fault.CheckFault.TheVariants.{Pending, Stale, Reserved, TwoToOne, ModeClash, ParentNotDirectory, MovedParent, ParentTaken, PathTooLong, TargetIsDirectory, NotEmpty, Unconfirmed, PathBytes}
 use Rattle.edit_check.specs.Place.{place, is_above, fronts}
-use Rattle.edit_check.specs.Rows.{is_same_path, is_at, is_source, written, is_far, turn_of, line_where}
+use Rattle.edit_check.specs.Rows.{is_same_path, is_source, written, is_far, turn_of, line_where}
 use Rattle.edit_check.specs.Sight.{Sight, is_dir, is_other, number_at}
 
 -- the staging directory of a commit

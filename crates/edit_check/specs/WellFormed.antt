@@ -1,5 +1,5 @@
 -- Well-formed changes of a tree, as statements on the rows and the paths of the tree; and what the caller of a check keeps to.
-use Rattle.std.specs.Prelude.{◌≡◌, ◌≢◌, ◌⊎◌, ℕ, ◌≤◌, ◌<◌, ◌==◌, Bool, true, false, List, [], ◌∷◌, ◌++◌, map, length, All, Option, Some, None, is_some, IsTrue, Contains}
+use Rattle.std.specs.Prelude.{◌≡◌, ◌≢◌, ◌⊎◌, ℕ, ◌≤◌, ◌<◌, true, false, List, [], ◌∷◌, ◌++◌, length, All, Option, Some, is_some, IsTrue, Contains}
 use Rattle.std.specs.List.{AllPairs}
 use Rattle.std.specs.FinMap.{get}
 use Rattle.dired_text.specs.Paths.{Names, is_below, path_bytes, max_path_bytes}
@@ -15,10 +15,10 @@ use Rattle.tree_core.specs.declared.changes.Fresh.TheVariants as fresh
 use Rattle.tree_core.specs.declared.changes.Changes.{Changes}
 use Rattle.tree_core.specs.declared.changes.Changes.TheVariants.{Edits, Removals, Creations}
 use Rattle.tree_core.specs.declared.changes.Confirmed.{Confirmed}
-use Rattle.tree_core.specs.FileTree.{FileTree, IsAbsent, Stands, IsDir, IsFile, IsMode, IsTarget}
+use Rattle.tree_core.specs.FileTree.{FileTree, IsAbsent, Stands, IsDir, IsMode, IsTarget}
 use Rattle.edit_check.specs.declared.row.Row.{Row}
 use Rattle.edit_check.specs.Place.{place, IsAbove}
-use Rattle.edit_check.specs.Rows.{rows, is_source, is_same_path, turn_of, written, is_far}
+use Rattle.edit_check.specs.Rows.{rows, is_source, turn_of, written, is_far}
 use Rattle.edit_check.specs.Refusals.{staging, is_confirmed, max_changed_bytes, changed_bytes}
 use Rattle.edit_check.specs.Sight.{sight_of}
 

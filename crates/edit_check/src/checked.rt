@@ -35,6 +35,13 @@ pub struct Checked {
 }
 
 impl Checked {
+    /// The changes, in the order of their lines.
+    pub fn changes(&self) -> &Changes
+        ensures { result.now ≡ self.now.changes }
+    {
+        &self.changes
+    }
+
     /// How much the changes change.
     pub fn counts(&self) -> Counts
         ensures { result ≡ self.now.counts }

@@ -1,5 +1,8 @@
 // What holds of the words that the contracts cite.
+ghost use Rattle.edit_check.specs.StandFor.{CanBeMadeWhereItStands, CountedWhereItStands};
 ghost use Rattle.edit_check.specs.Laws.{FaultOfFirst, FaultOfLeast, LineOfLeast, NoLine, TakenAlone, WellFormedAlone};
+
+use crate::Checked;
 
 /// The faults that no confirmation changes are those of changes that aren't well formed.
 pub fn well_formed_where_no_fault_is_found()
@@ -20,3 +23,11 @@ pub fn the_first_line_is_the_least()
     ensures line { LineOfLeast }
     ensures none { NoLine }
 {}
+
+/// A `Checked` stands for each tree that has its findings: there the changes can be made, and the counts are theirs.
+pub fn changes_can_be_made_where_it_stands(checked: &Checked)
+    ensures made { CanBeMadeWhereItStands checked.now }
+    ensures counted { CountedWhereItStands checked.now }
+{
+    let _changes = &checked.changes;
+}

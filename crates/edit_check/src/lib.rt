@@ -21,13 +21,13 @@ mod sight;
 mod table;
 mod victims;
 
-pub use checking::check;
 pub use checked::Checked;
+pub use checking::check;
 pub use counts::Counts;
 pub use fault::CheckFault;
 pub use laws::{
-    taken_where_nothing_is_refused, the_first_line_is_the_least,
-    well_formed_where_no_fault_is_found,
+    changes_can_be_made_where_it_stands, taken_where_nothing_is_refused,
+    the_first_line_is_the_least, well_formed_where_no_fault_is_found,
 };
 pub use row::{Row, Turn, rows_of};
 pub use sight::Seen;

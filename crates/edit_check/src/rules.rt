@@ -178,12 +178,7 @@ fn moved_parent(table: &Table, row: &Row, above: &[Path]) -> Option<CheckFault>
 }
 
 // The least line that writes one of these paths where nothing stands.
-fn parent_taken(
-    table: &Table,
-    findings: &Findings,
-    row: &Row,
-    above: &[Path],
-) -> Option<CheckFault>
+fn parent_taken(table: &Table, findings: &Findings, row: &Row, above: &[Path]) -> Option<CheckFault>
     ensures { result ≡ option_map (faults.ParentTaken row.now.line) (least_line (λ p. first_line (get path_cmp table.now.writers.claims p)) None (filter (λ p. not (is_some ((sight_in findings.now).at p))) above.now)) }
 {
     let mut least = None;

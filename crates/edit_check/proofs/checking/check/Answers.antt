@@ -1,9 +1,7 @@
-use Rattle.std.proofs.Common.{rules, ◌≡◌, ◌⊎◌, List, None, Some, IfErr, sym, ap, ◌∙◌, subst}
+use Rattle.std.proofs.Common.{rules, ◌≡◌, ◌⊎◌, List, None, Some, ap, ◌∙◌, subst}
 use Rattle.tree_core.specs.FileTree.{IsTree}
 use Rattle.tree_core.specs.History.{current_tree}
 use Rattle.edit_check.specs.declared.checked.Checked.{Checked}
-use Rattle.edit_check.specs.declared.counts.Counts.{Counts}
-use Rattle.edit_check.specs.declared.fault.CheckFault.{CheckFault}
 use Rattle.edit_check.specs.declared.fault.CheckFault.TheVariants as fault
 use Rattle.edit_check.specs.declared.row.Row.{Row}
 use Rattle.edit_check.specs.Counting.{counts_of}

@@ -11,4 +11,4 @@ use Rattle.edit_check.proofs.deciding.file_modes_of.Given as goal
 abbrev pub invariant-loop-row : goal.invariant-loop-row
 invariant-loop-row l =
     (n : ℕ) → claims_behind (names_mode (sight_in l.findings) n) (λ (o : Row). unwrap_or o.mode 0) (get nat_cmp l.modes.claims n) (drop l.row-index l.rows)
-        ≡ claims_behind (names_mode (sight_in l.findings) n) (λ (o : Row). unwrap_or o.mode 0) None l.rows
+    ≡ claims_behind (names_mode (sight_in l.findings) n) (λ (o : Row). unwrap_or o.mode 0) None l.rows

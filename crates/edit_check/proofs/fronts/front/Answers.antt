@@ -1,4 +1,4 @@
-use Rattle.std.proofs.Common.{rules, ◌≤◌, take, arith}
+use Rattle.std.proofs.Common.{rules, ◌≤◌, take}
 use Rattle.dired_text.specs.Paths.{path_bytes}
 use Rattle.edit_check.proofs.FrontLemmas.{front_is_short}
 use Rattle.edit_check.proofs.fronts.front.Goals as goal

@@ -1,6 +1,5 @@
-use Rattle.std.proofs.Common.{rules, ◌≡◌, ◌≤◌, ◌<◌, ◌++◌, ◌+◌, [], ◌∷◌, length, take, sym, ap, ◌∙◌, arith}
+use Rattle.std.proofs.Common.{rules, ◌≡◌, ◌≤◌, ◌<◌, ◌++◌, ◌+◌, [], ◌∷◌, length, take}
 use Rattle.std.proofs.lemmas.List.{take_all}
-use Rattle.dired_text.specs.Paths.{Names}
 use Rattle.edit_check.specs.Place.{fronts}
 use Rattle.edit_check.proofs.FrontLemmas.{next_front, fronts_counted}
 use Rattle.edit_check.proofs.fronts.fronts.Goals as goal

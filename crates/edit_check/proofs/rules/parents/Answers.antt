@@ -1,9 +1,8 @@
-use Rattle.std.proofs.Common.{rules, ◌≡◌, List, Option, Some, None, true, filter, not, is_some, sym, ◌∙◌, ap}
+use Rattle.std.proofs.Common.{rules, ◌≡◌, Some, None, true, filter, not, is_some, ◌∙◌}
 use Rattle.std.specs.BTreeMap.{get}
 use Rattle.std.specs.List.{find}
 use Rattle.std.specs.Option.{option_map}
-use Rattle.dired_text.specs.Paths.{Names, path_cmp}
-use Rattle.edit_check.specs.declared.fault.CheckFault.{CheckFault}
+use Rattle.dired_text.specs.Paths.{path_cmp}
 use Rattle.edit_check.specs.declared.fault.CheckFault.TheVariants.{ParentNotDirectory, MovedParent, ParentTaken}
 use Rattle.edit_check.specs.Claims.{first_line, least_line}
 use Rattle.edit_check.specs.Found.{sight_in}

@@ -9,4 +9,4 @@ use Rattle.edit_check.proofs.table.movers_of.Given as goal
 abbrev pub invariant-loop-row : goal.invariant-loop-row
 invariant-loop-row l =
     (p : Names) → claims_behind (λ (o : Row). is_moved_by p o.source o.to) (λ (o : Row). o.line) (get path_cmp l.movers.claims p) (drop l.row-index l.rows)
-        ≡ claims_behind (λ (o : Row). is_moved_by p o.source o.to) (λ (o : Row). o.line) None l.rows
+    ≡ claims_behind (λ (o : Row). is_moved_by p o.source o.to) (λ (o : Row). o.line) None l.rows

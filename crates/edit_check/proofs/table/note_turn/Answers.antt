@@ -2,7 +2,6 @@ use Rattle.std.proofs.Common.{rules, ◌≡◌, Some, None, IsTrue, is_some, if�
 use Rattle.std.specs.Option.{option_or}
 use Rattle.std.specs.BTreeMap.{get}
 use Rattle.dired_text.specs.Paths.{Names, path_cmp}
-use Rattle.edit_check.specs.declared.row.Turn.{Turn}
 use Rattle.edit_check.specs.Rows.{is_at, is_same_path, turn_to}
 use Rattle.edit_check.proofs.TableLemmas.{turn_noted, turn_kept}
 use Rattle.edit_check.proofs.table.note_turn.Goals as goal

@@ -9,4 +9,4 @@ use Rattle.edit_check.proofs.table.writers_of.Given as goal
 abbrev pub invariant-loop-row : goal.invariant-loop-row
 invariant-loop-row l =
     (p : Names) → claims_behind (λ (o : Row). is_same_path (written o) p) (λ (o : Row). o.line) (get path_cmp l.writers.claims p) (drop l.row-index l.rows)
-        ≡ claims_behind (λ (o : Row). is_same_path (written o) p) (λ (o : Row). o.line) None l.rows
+    ≡ claims_behind (λ (o : Row). is_same_path (written o) p) (λ (o : Row). o.line) None l.rows

@@ -1,0 +1,21 @@
+-- The trees that a check stands for.
+use Rattle.std.specs.Prelude.{◌≡◌}
+use Rattle.tree_core.specs.FileTree.{FileTree, IsTree}
+use Rattle.edit_check.specs.declared.checked.Checked.{Checked}
+use Rattle.edit_check.specs.Counting.{counts_of}
+use Rattle.edit_check.specs.Found.{HasFindings}
+use Rattle.edit_check.specs.Rows.{rows}
+use Rattle.edit_check.specs.Sight.{sight_of}
+use Rattle.edit_check.specs.WellFormed.{CanBeMade}
+
+-- It stands for each tree that has its findings:
+abbrev pub StandsFor : Checked → FileTree → Type 0
+StandsFor checked t = HasFindings checked.findings (sight_of t)
+
+-- in each of these the changes can be made
+abbrev pub CanBeMadeWhereItStands : Checked → Type 0
+CanBeMadeWhereItStands checked = (t : FileTree) → IsTree t → StandsFor checked t → CanBeMade t checked.confirmed (rows checked.changes)
+
+-- and the counts are theirs
+abbrev pub CountedWhereItStands : Checked → Type 0
+CountedWhereItStands checked = (t : FileTree) → StandsFor checked t → checked.counts ≡ counts_of (sight_of t) (rows checked.changes)
