@@ -220,6 +220,7 @@ fn see_for<T: Tree>(
     ensures closed { IsClosed findings.new }
     ensures told { T.Tells → HasFindings findings.new (sight_of (current_tree (T.history tree.old))) }
     ensures refused { T.Tells → IfErr result (λ fault. IsFreeOr fault None) }
+    ensures line { IfErr result (λ e. IsFreeOr e (Some (fault.Stale line))) }
     ensures history { T.Tells → T.history tree.new ≡ T.history tree.old }
     ensures fields { T.Tells → T.fields tree.new ≡ T.fields tree.old }
     ensures before { T.Tells → LooksFound failed_call result (current_tree (T.history tree.old)) (T.before_failed tree.old) (T.before_failed tree.new) }
@@ -285,7 +286,8 @@ fn see_removed_row<T: Tree>(
 // The fault of a row of this line where its looks ended so.
 fn fault_at(line: u32, end: SeeEnd) -> CheckFault
     ensures call { failed_call result ≡ failed_look end }
-    ensures free { contradicts end ≡ false → IsFreeOr result None }
+    ensures agreed { contradicts end ≡ false → IsFreeOr result None }
+    ensures line { IsFreeOr result (Some (fault.Stale line)) }
 {
     match end {
         SeeEnd::Failed(call) => CheckFault::TreeFault(call),
