@@ -78,11 +78,20 @@ rm "$work/large"
 sed 's/ b$/ d/; s/ a$/ c/' "$work/before" > "$work/after"
 run 'two edits' 23 $'dired: line 5: not built yet\n' commit ../before ../after
 sed 's/ a$/ b/' "$work/before" > "$work/after"
-run 'a name that is taken' 23 $'dired: line 4: not built yet\n' commit ../before ../after
+run 'a name that is taken' 9 $'dired: line 4: b would be replaced\n' commit ../before ../after
+run 'a name that is taken, another one confirmed' 9 $'dired: line 4: b would be replaced\n' commit ../before ../after a
+run 'a name that is taken, confirmed' 23 $'dired: line 4: not built yet\n' commit ../before ../after b
+run 'a name that is taken, all confirmed' 23 $'dired: line 4: not built yet\n' commit --all ../before ../after
 sed 's/ a$/ x\/c/' "$work/before" > "$work/after"
-run 'another directory' 23 $'dired: line 4: not built yet\n' commit ../before ../after
+run 'a directory to be made' 23 $'dired: line 4: not built yet\n' commit ../before ../after
 sed 's/ a$/ .wdired-commit/' "$work/before" > "$work/after"
-run 'the name of the staging directory' 23 $'dired: line 4: not built yet\n' commit ../before ../after
+run 'the name of the staging directory' 8 $'dired: line 4: Reserved\n' commit ../before ../after
+sed 's/ a$/ c/; s/ b$/ c/' "$work/before" > "$work/after"
+run 'two names for one' 8 $'dired: line 4: TwoToOne 5\n' commit ../before ../after
+sed 's/ a$/ b\/c/' "$work/before" > "$work/after"
+run 'a file as a directory' 8 $'dired: line 4: ParentNotDirectory b\n' commit ../before ../after
+sed 's/ a$/ c\/d\/a/; s/ b$/ c/' "$work/before" > "$work/after"
+run 'a directory to be made is taken' 8 $'dired: line 4: a directory to be made is taken by line 5\n' commit ../before ../after
 sed '4s/ a$/ c/; 4s/^  -rw-r--r--/  -rw-r-----/' "$work/before" > "$work/after"
 run 'a mode edited besides' 23 $'dired: line 4: not built yet\n' commit ../before ../after
 sed 's/ a$/ c/; s/ 1 / 2 /' "$work/before" > "$work/after"
@@ -102,6 +111,24 @@ run 'a path that is confirmed by the root' 1 $'dired: usage: list, commit, run, 
 { printf 'dired 1\n  .:\n  total 0\n'; yes '' | head -n 199998; } > "$work/many"
 run 'too many lines' 18 $'dired: too large: BufferLines 200001\n' commit ../many ../many
 unchanged 'refusals' "$before"
+
+fresh; mkdir "$work/tree/d"; (cd "$work/tree" && "$program" list d > ../before); sed 's/ a$/ d\/e/' "$work/before" > "$work/after"
+run 'into another directory' 0 "$done_one" commit ../before ../after
+[ "$(cat "$work/tree/d/e")" = first ] || { failed=1; echo 'FAILED: into another directory'; }
+fresh; mkdir "$work/tree/d"; (cd "$work/tree" && "$program" list > ../before); before=$(ls -lAR --full-time "$work/tree")
+sed 's/ d$/ d\/e\/f/' "$work/before" > "$work/after"
+run 'a directory below itself' 8 $'dired: line 6: MovedParent 6\n' commit ../before ../after
+sed 's/ a$/ d/' "$work/before" > "$work/after"
+run 'a directory at the new name' 8 $'dired: line 4: TargetIsDirectory d\n' commit --all ../before ../after
+[ "$(ls -lAR --full-time "$work/tree")" = "$before" ] || { failed=1; echo 'FAILED: a directory at the new name'; }
+fresh; ln "$work/tree/a" "$work/tree/k"; (cd "$work/tree" && "$program" list > ../before)
+sed '4s/^  -rw-r--r--/  -rw-------/; 6s/^  -rw-r--r--/  -r--------/' "$work/before" > "$work/after"
+run 'two modes for one file' 8 $'dired: line 4: ModeClash 6\n' commit ../before ../after
+fresh; : > "$work/tree/n"$'\n'; sed 's/ a$/ n\\n/' "$work/before" > "$work/after"
+run 'a taken name with a newline' 9 $'dired: line 4: n\\n would be replaced\n' commit ../before ../after
+fresh; mkdir "$work/tree/.wdired-commit"; sed -i 's/ a$/ c/' "$work/after"; chmod 600 "$work/tree/a"
+run 'an unfinished commit before a stale line' 11 $'dired: an unfinished commit stands; run recover\n' commit ../before ../after
+run 'an unfinished commit, no edit' 11 $'dired: an unfinished commit stands; run recover\n' commit ../before ../before
 
 fresh; sed -i 's/ a$/ c/' "$work/after"; chmod 600 "$work/tree/a"; before=$(shown)
 run 'a stale line' 10 $'dired: line 4: the file is not as shown\n' commit ../before ../after
