@@ -1,5 +1,5 @@
 // The bytes of the paths of changes.
-ghost use Rattle.std.specs.Prelude.{◌≡◌, ◌≤◌, ◌*◌, ◌^◌, IfOk, None, filter, is_some, length, not};
+ghost use Rattle.std.specs.Prelude.{◌≡◌, ◌≤◌, ◌*◌, ◌^◌, IfOk, None, length};
 ghost use Rattle.dired_text.specs.Paths.{path_bytes, max_path_bytes};
 ghost use Rattle.edit_check.specs.Found.{sight_in};
 ghost use Rattle.edit_check.specs.Refusals.{first_fault, total};
@@ -40,16 +40,13 @@ pub fn missing_above(alloc: Global, findings: &Findings, row: &Row) -> Result<Ve
         return Ok(Vec::new(alloc));
     }
     let path = written(alloc, row)?;
-    let mut above = fronts(alloc, &path)?;
-    retain_missing(findings, &mut above);
-    Ok(above)
-}
-
-// Keeps the paths at which nothing stands.
-fn retain_missing(findings: &Findings, paths: &mut Vec<Path>)
-    ensures { paths.new.items ≡ filter (λ p. not (is_some ((sight_in findings.now).at p))) paths.old.items }
-{
-    paths.retain(|path| !findings.stands(path));
+    let mut missing = Vec::new(alloc);
+    for front in fronts(alloc, &path)? {
+        if !findings.stands(&front) {
+            missing.push(front)?;
+        }
+    }
+    Ok(missing)
 }
 
 // The bytes of the paths of a row.

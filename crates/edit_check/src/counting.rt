@@ -2,7 +2,6 @@
 ghost use Rattle.std.specs.Prelude.{◌≡◌, ◌≤◌, ◌&&◌, ◌++◌, IfOk, OnOk, List, count_by, is_some, length, not};
 ghost use Rattle.std.specs.List.{flat_map};
 ghost use Rattle.dired_text.specs.Paths.{Names};
-ghost use Rattle.edit_check.specs.declared.row.Row.{Row as RowValue};
 ghost use Rattle.edit_check.specs.Counting.{counts_of, different, HasPaths};
 ghost use Rattle.edit_check.specs.Found.{sight_in};
 ghost use Rattle.edit_check.specs.Refusals as fault;
@@ -40,7 +39,7 @@ pub fn counts(alloc: Global, table: &Table, findings: &Findings) -> Result<Count
 // How many edits have a new path.
 fn renamed(rows: &[Row]) -> u32
     requires { length rows.now ≤ max_changes }
-    ensures { result ≡ count_by (λ (r : RowValue). is_some r.source && is_some r.to) rows.now }
+    ensures { result ≡ count_by (λ (r : Row). is_some r.source && is_some r.to) rows.now }
 {
     rows.iter()
         .filter(|row| row.source.is_some() && row.to.is_some())
@@ -50,7 +49,7 @@ fn renamed(rows: &[Row]) -> u32
 // How many links have a new target.
 fn retargeted(rows: &[Row]) -> u32
     requires { length rows.now ≤ max_changes }
-    ensures { result ≡ count_by (λ (r : RowValue). r.retargets) rows.now }
+    ensures { result ≡ count_by (λ (r : Row). r.retargets) rows.now }
 {
     rows.iter().filter(|row| row.retargets).count() as u32
 }
@@ -58,7 +57,7 @@ fn retargeted(rows: &[Row]) -> u32
 // How many edits have a new mode.
 fn modes(rows: &[Row]) -> u32
     requires { length rows.now ≤ max_changes }
-    ensures { result ≡ count_by (λ (r : RowValue). is_some r.mode) rows.now }
+    ensures { result ≡ count_by (λ (r : Row). is_some r.mode) rows.now }
 {
     rows.iter().filter(|row| row.mode.is_some()).count() as u32
 }
@@ -67,7 +66,7 @@ fn modes(rows: &[Row]) -> u32
 fn replaced(table: &Table, findings: &Findings) -> u32
     requires table { IsTable table.now }
     requires count { length table.now.rows.items ≤ max_changes }
-    ensures { result ≡ count_by (λ (r : RowValue). is_some (fault.victim_of (sight_in findings.now) table.now.rows.items r)) table.now.rows.items }
+    ensures { result ≡ count_by (λ (r : Row). is_some (fault.victim_of (sight_in findings.now) table.now.rows.items r)) table.now.rows.items }
 {
     let mut count = 0;
     for row in &table.rows {
@@ -81,7 +80,7 @@ fn replaced(table: &Table, findings: &Findings) -> u32
 // How many removals there are.
 fn removed(rows: &[Row]) -> u32
     requires { length rows.now ≤ max_changes }
-    ensures { result ≡ count_by (λ (r : RowValue). r.removes) rows.now }
+    ensures { result ≡ count_by (λ (r : Row). r.removes) rows.now }
 {
     rows.iter().filter(|row| row.removes).count() as u32
 }
@@ -89,7 +88,7 @@ fn removed(rows: &[Row]) -> u32
 // How many creations there are.
 fn created(rows: &[Row]) -> u32
     requires { length rows.now ≤ max_changes }
-    ensures { result ≡ count_by (λ (r : RowValue). not (is_some r.source)) rows.now }
+    ensures { result ≡ count_by (λ (r : Row). not (is_some r.source)) rows.now }
 {
     rows.iter().filter(|row| row.source.is_none()).count() as u32
 }
