@@ -35,23 +35,25 @@ pub struct Checked {
 }
 
 impl Checked {
+    ghost use Rattle.edit_check.specs.StandFor.{changes_in, counts_in};
+
     /// The changes, in the order of their lines.
     pub fn changes(&self) -> &Changes
-        ensures { result.now ≡ self.now.changes }
+        ensures { result.now ≡ changes_in self.now }
     {
         &self.changes
     }
 
     /// How much the changes change.
     pub fn counts(&self) -> Counts
-        ensures { result ≡ self.now.counts }
+        ensures { result ≡ counts_in self.now }
     {
         self.counts
     }
 
     /// The new place of a path of the tree, or None where it is replaced or removed, or has more than 4,095 bytes.
     pub fn new_place(&self, old: &Path) -> Result<Option<Path>, Memory>
-        ensures { IfOk result (λ found. found ≡ new_place_of (rows_in self.now.changes) old.now) }
+        ensures { IfOk result (λ found. found ≡ new_place_of (rows_in (changes_in self.now)) old.now) }
     {
         if self.table.is_victim(old) || self.table.is_removed(old) {
             return Ok(None);

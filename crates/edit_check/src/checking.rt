@@ -9,8 +9,9 @@ ghost use Rattle.edit_check.specs.Tables.{IsTable};
 ghost use Rattle.edit_check.specs.declared.fault.CheckFault.TheVariants as faults;
 ghost use Rattle.edit_check.specs.Counting.{counts_of};
 ghost use Rattle.edit_check.specs.WellFormed.{AreAsked, CanBeMade, LinksHaveFiles};
-ghost use Rattle.edit_check.specs.Found.{HasFindings, FaultsBy, IsCovered, IsFreeOr, IsLookAt, failed_call, sight_in};
+ghost use Rattle.edit_check.specs.Found.{FaultsBy, IsCovered, IsFreeOr, IsLookAt, failed_call, sight_in};
 ghost use Rattle.edit_check.specs.Checks.{FoundBy};
+ghost use Rattle.edit_check.specs.StandFor.{StandsFor, changes_in, confirmed_in, counts_in};
 
 use crate::counting::counts;
 use crate::deciding::first_refusal;
@@ -40,9 +41,9 @@ pub fn check<T: Tree>(
 
     ensures taken { T.Tells → OnOk result (CanBeMade (current_tree (T.history tree.old)) confirmed.now (rows_in changes)) }
     ensures refused { T.Tells → IfErr result (λ fault. IsFreeOr fault (refusal (sight_of (current_tree (T.history tree.old))) confirmed.now (rows_in changes))) }
-    ensures keeps { IfOk result (λ c. (c.changes ≡ changes) × (c.confirmed ≡ confirmed.now)) }
-    ensures findings { T.Tells → IfOk result (λ c. HasFindings c.findings (sight_of (current_tree (T.history tree.old)))) }
-    ensures counts { T.Tells → IfOk result (λ c. c.counts ≡ counts_of (sight_of (current_tree (T.history tree.old))) (rows_in changes)) }
+    ensures keeps { IfOk result (λ c. (changes_in c ≡ changes) × (confirmed_in c ≡ confirmed.now)) }
+    ensures stands_for { T.Tells → IfOk result (λ c. StandsFor c (current_tree (T.history tree.old))) }
+    ensures counts { T.Tells → IfOk result (λ c. counts_in c ≡ counts_of (sight_of (current_tree (T.history tree.old))) (rows_in changes)) }
     ensures history { T.Tells → T.history tree.new ≡ T.history tree.old }
     ensures fields { T.Tells → T.fields tree.new ≡ T.fields tree.old }
     ensures before_failed { T.Tells → MatchResult result
