@@ -1,15 +1,14 @@
 -- Each line does what it says to its source, and what no line gives a mode keeps its mode.
-use Rattle.std.proofs.Common.{◌≡◌, ◌≢◌, ◌⊎◌, inl, inr, ℕ, Bool, true, false, not, ◌&&◌, List, [], ◌∷◌, ◌++◌, refl, sym, ◌∙◌, ap, subst, Option, Some, None, is_some, IsTrue}
-use Rattle.std.specs.Prelude.{Contains, unwrap_or, ◌==◌}
+use Rattle.std.proofs.Common.{◌≡◌, ◌≢◌, ◌⊎◌, inl, inr, ℕ, Bool, true, false, not, ◌&&◌, List, [], ◌∷◌, ◌++◌, refl, sym, ◌∙◌, ap, Option, Some, None, is_some, eq-eqb, eqb-true}
+use Rattle.std.specs.Prelude.{Contains, unwrap_or}
 use Rattle.std.specs.FinMap.{get}
 use Rattle.std.proofs.lemmas.Bool.{cond-true, cond-false, cases_Bool, and_parts, not-true, false_from_ne_true}
-use Rattle.std.proofs.lemmas.Option.{none-some, same_Some}
 use Rattle.dired_text.specs.Paths.{Names, parent}
 use Rattle.dired_text.proofs.PathLemmas.{path_decides, parent-push}
 use Rattle.tree_core.specs.declared.node.Node.{Node}
 use Rattle.tree_core.specs.declared.node.Node.TheVariants.{Dir, Link, File}
 use Rattle.tree_core.specs.declared.changes.Changes.{Changes}
-use Rattle.tree_core.specs.FileTree.{FileTree, IsTree, IsFile, mode_of}
+use Rattle.tree_core.specs.FileTree.{FileTree, IsFile, mode_of}
 use Rattle.edit_check.specs.declared.row.Row.{Row}
 use Rattle.edit_check.specs.declared.row.Turn.{Turn}
 use Rattle.edit_check.specs.declared.row.Turn.TheVariants.{Stays, Named, Sent}
@@ -40,11 +39,8 @@ number_parts None number e = cc
 number_parts (Some (Dir mode)) number e = cc
 number_parts (Some (Link target)) number e = cc
 number_parts (Some (File n bytes mode)) number e =
-    let same : number ≡ n = arith in
+    let same : number ≡ n = eqb-true number n e in
     (bytes, mode, ap (λ (m : ℕ). Some (File m bytes mode)) (sym same))
-
-number_itself : (number : ℕ) → (number == number) ≡ true
-number_itself number = arith
 
 number_parts_at : (t : FileTree) (r : Row) (number : ℕ) → is_number number (number_at t r.source) ≡ true → HasNumber t r number
 number_parts_at t r number e = go r.source refl
@@ -57,7 +53,7 @@ number_parts_at t r number e = go r.source refl
 
 number_from : (t : FileTree) (r : Row) (number : ℕ) → HasNumber t r number → is_number number (number_at t r.source) ≡ true
 number_from t r number (s, bytes, mode, source, at) =
-    ap (λ (o : Option Names). is_number number (number_at t o)) source ∙ ap (λ (o : Option Node). is_number number (number_of o)) at ∙ number_itself number
+    ap (λ (o : Option Names). is_number number (number_at t o)) source ∙ ap (λ (o : Option Node). is_number number (number_of o)) at ∙ eq-eqb number number refl
 
 abbrev names : FileTree → ℕ → Row → Bool
 names t number r = is_some r.mode && is_number number (number_at t r.source)
@@ -100,8 +96,8 @@ others_keep t rs p (File number bytes mode) none = ap (λ (o : Option ℕ). File
 
 -- ---- lines
 
-module _ (t : FileTree) (changes : Changes) (tree : IsTree t) (asked : CanBeAsked (IsFile t) changes) (fine : IsWellFormed t (rows changes)) (r : Row) (s : Names)
-  (listed : Contains (rows changes) r) (source : r.source ≡ Some s) where
+module _ (t : FileTree) (changes : Changes) (asked : CanBeAsked (IsFile t) changes) (fine : IsWellFormed t (rows changes)) (r : Row) (s : Names)
+    (listed : Contains (rows changes) r) (source : r.source ≡ Some s) where
   are : AreRows t (rows changes)
   are = rows_are t changes asked fine
 

@@ -1,5 +1,5 @@
 -- Victims are what the new paths of rows replace.
-use Rattle.std.proofs.Common.{◌≡◌, ◌↔◌, true, not, ◌&&◌, List, ap, ◌∙◌}
+use Rattle.std.proofs.Common.{◌≡◌, ◌↔◌, Bool, true, not, ◌&&◌, List, ap, ◌∙◌}
 use Rattle.std.specs.Prelude.{Contains}
 use Rattle.std.proofs.lemmas.Bool.{and_parts, not-true}
 use Rattle.dired_text.specs.Paths.{Names}
@@ -15,6 +15,6 @@ victims_are t rs p = (
   λ victim.
       let parts = and_parts (is_written rs p) (not (is_source rs p)) victim.0 in
       let r = any_parts (λ (r : Row). is_at p r.to) rs parts.0 in
-      (r.0, r.1, is_at-true p r.0.to r.2, victim.1, not-true _ parts.1),
-  λ by. (ap (λ (b : _). b && not (is_source rs p)) (is_written-from rs by.0 p by.1 by.2) ∙ ap not by.4, by.3),
+      (r.0, r.1, (is_at-true p r.0.to r.2, victim.1, not-true _ parts.1)),
+  λ by. (ap (λ (b : Bool). b && not (is_source rs p)) (is_written-from rs by.0 p by.1 by.2.0) ∙ ap not by.2.2, by.2.1),
 )
