@@ -104,6 +104,19 @@ module _ (t : FileTree) (changes : Changes) (asked : CanBeAsked (IsFile t) chang
     kinds = kinds_of changes;
   }
 
+  no_link_as : (r : Row) (s : Names) (mode : ℕ) (target : List ℕ) → Contains (rows changes) r → r.source ≡ Some s → r.mode ≡ Some mode → KindOf r → get t s ≡ Some (Link target) → ⊥
+  no_link_as r s mode target c source some (edit e lawful is) at =
+      let seen = shown_at r s e.was c source (ap (λ (x : Row). x.was) is) in
+      let link : Link target ≡ seen.0 = same_Some (Link target) seen.0 (sym at ∙ seen.1) in
+      let shows : ShowsNode e.was (Link target) = subst (ShowsNode e.was) (sym link) seen.2 in
+      (lawful.mode mode (sym (ap (λ (x : Row). x.mode) is) ∙ some)).0 shows.0
+  no_link_as r s mode target c source some (removal e is) at = none-some mode (sym (ap (λ (x : Row). x.mode) is) ∙ some)
+  no_link_as r s mode target c source some (creation e is) at = none-some mode (sym (ap (λ (x : Row). x.mode) is) ∙ some)
+
+  -- no link gets a new mode
+  pub no_link : (r : Row) (s : Names) (mode : ℕ) (target : List ℕ) → Contains (rows changes) r → r.source ≡ Some s → r.mode ≡ Some mode → get t s ≡ Some (Link target) → ⊥
+  no_link r s mode target c source some at = no_link_as r s mode target c source some (kind_at r c) at
+
 -- ---- entries that are made
 
 -- What the entries are like that are made, whatever the kind of the changes, and the modes of their rows.

@@ -6,3 +6,6 @@ mod RowLemmas
 mod AskedLemmas
 mod AddedLemmas
 mod EditedLemmas
+mod LineLemmas
+mod VictimLemmas
+mod FrontLemmas

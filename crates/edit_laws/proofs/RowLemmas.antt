@@ -31,18 +31,18 @@ row_from-some rs p r e = let f = find_parts (λ (x : Row). is_at p x.source) rs 
 pub row_there : (rs : List Row) (r : Row) (s : Names) → Contains rs r → r.source ≡ Some s → (o : Row) × (row_from rs s ≡ Some o)
 row_there rs r s listed source = find_from (λ (x : Row). is_at s x.source) rs r listed (is_at-same s r.source source)
 
-is_written-from : (rs : List Row) (r : Row) (w : Names) → Contains rs r → r.to ≡ Some w → is_written rs w ≡ true
+pub is_written-from : (rs : List Row) (r : Row) (w : Names) → Contains rs r → r.to ≡ Some w → is_written rs w ≡ true
 is_written-from rs r w listed to = any_from (λ (x : Row). is_at w x.to) rs r listed (is_at-same w r.to to)
 
 -- a path that isn't empty is its parent and its last name
-front_last : (w : Names) → w ≢ [] → w ≡ parent w ++ last_name w ∷ []
+pub last_name-push : (p : Names) (n : List ℕ) → last_name (p ++ n ∷ []) ≡ n
+last_name-push [] n = refl
+last_name-push (x ∷ []) n = refl
+last_name-push (x ∷ y ∷ p) n = last_name-push (y ∷ p) n
+
+pub front_last : (w : Names) → w ≢ [] → w ≡ parent w ++ last_name w ∷ []
 front_last w = by_last (λ w. w ≢ [] → w ≡ parent w ++ last_name w ∷ []) (λ no. absurd (no refl)) (λ p n before no.
     ap (λ (l : Names). l ++ n ∷ []) (sym (parent-push p n)) ∙ ap (λ (m : List ℕ). parent (p ++ n ∷ []) ++ m ∷ []) (sym (last_name-push p n))) w
-  where
-    last_name-push : (p : Names) (n : List ℕ) → last_name (p ++ n ∷ []) ≡ n
-    last_name-push [] n = refl
-    last_name-push (x ∷ []) n = refl
-    last_name-push (x ∷ y ∷ p) n = last_name-push (y ∷ p) n
 
 turn_to-written : (p : Names) (n : List ℕ) (w : Names) → w ≢ [] → turned (turn_to (p ++ n ∷ []) (Some w)) p n ≡ w
 turn_to-written p n w not_root = elim (cases_Bool (is_same_path (parent (p ++ n ∷ [])) (parent w))) [

@@ -6,6 +6,13 @@ ghost use Rattle.edit_laws.specs.Laws.{
   PathsGoToTheirPlaces,
   PlacesAreApart,
 };
+ghost use Rattle.edit_laws.specs.Lines.{
+  FirstIsShortest,
+  LinesAreCarriedOut,
+  NonePasses,
+  OthersKeepTheirModes,
+  VictimsAreReplaced,
+};
 
 /// Well-formed changes take two different paths of a tree that stay to different places.
 pub fn places_are_apart()
@@ -29,4 +36,24 @@ pub fn paths_go_to_their_places()
 /// paths of one number show one file, and modes and targets are lawful.
 pub fn edited_tree_is_a_tree()
     ensures { EditedIsTree }
+{}
+
+/// Each line that has a source and doesn't remove it is carried out. A new path outside of the source's directory is the source's
+/// new place, whatever becomes of that directory. A new path in the same directory gives it the new name at the directory's new
+/// place, and with no new path it keeps its own name there. It has the new mode that the line names. What no line gives a mode, by
+/// its path or by the number of its file, stays as it is.
+pub fn lines_are_carried_out()
+    ensures carried_out { LinesAreCarriedOut }
+    ensures other_modes { OthersKeepTheirModes }
+{}
+
+/// What stands at a victim's path is what the new path of a line replaces, and the other way round.
+pub fn victims_are_what_new_paths_replace()
+    ensures { VictimsAreReplaced }
+{}
+
+/// Of the paths above a path the shortest that passes a test is found. None is found only where none passes.
+pub fn the_shortest_path_is_told()
+    ensures first { FirstIsShortest }
+    ensures none { NonePasses }
 {}

@@ -1,0 +1,56 @@
+-- What becomes of the lines: each does what it says, and no more.
+use Rattle.std.specs.Prelude.{◌≡◌, ◌⊎◌, ◌↔◌, ℕ, ◌<◌, Bool, true, false, List, [], ◌∷◌, ◌++◌, length, Some, None, is_some, IsTrue, Contains}
+use Rattle.std.specs.List.{find}
+use Rattle.std.specs.FinMap.{get}
+use Rattle.dired_text.specs.Paths.{Names, parent}
+use Rattle.tree_core.specs.declared.node.Node.{Node}
+use Rattle.tree_core.specs.declared.changes.Changes.{Changes}
+use Rattle.tree_core.specs.FileTree.{FileTree, IsTree, IsFile, Stands, mode_of}
+use Rattle.edit_check.specs.declared.row.Row.{Row}
+use Rattle.edit_check.specs.Place.{place, IsAbove, fronts}
+use Rattle.edit_check.specs.Rows.{rows, written, is_far, last_name, turn_of, is_victim}
+use Rattle.edit_check.specs.Edited.{number_of, with_new_mode}
+use Rattle.edit_check.specs.WellFormed.{IsWellFormed, CanBeAsked, HasNumber, IsVictimOf}
+
+-- A line is carried out on its source: that goes to the place that the line says, and has the mode that it says.
+pub record IsCarriedOut (t : FileTree) (rs : List Row) (r : Row) (source : Names) : Type 0 where
+  -- to the new path, where that is outside of its directory
+  pub far : is_far r ≡ true → place (turn_of rs) source ≡ written r
+  -- to the last name of a new path in its directory, wherever that directory goes
+  pub near : (w : Names) → r.to ≡ Some w → is_far r ≡ false → (w ≡ parent source ++ last_name w ∷ []) × (place (turn_of rs) source ≡ place (turn_of rs) (parent source) ++ last_name w ∷ [])
+  -- and with its own name, where it has no new path
+  pub still : r.to ≡ None → place (turn_of rs) source ≡ place (turn_of rs) (parent source) ++ last_name source ∷ []
+  -- with the new mode, if there is one
+  pub mode : (mode : ℕ) (node : Node) → r.mode ≡ Some mode → get t source ≡ Some node → mode_of (with_new_mode t rs source node) ≡ mode
+
+-- each line that has a source and doesn't remove it
+abbrev pub LinesAreCarriedOut : Type 0
+LinesAreCarriedOut =
+    (t : FileTree) (changes : Changes) → IsTree t → CanBeAsked (IsFile t) changes → IsWellFormed t (rows changes)
+    → (r : Row) (source : Names) → Contains (rows changes) r → r.source ≡ Some source → r.removes ≡ false → IsCarriedOut t (rows changes) r source
+
+-- a line gives the entry at a path a mode: its source is that path, or shows the same file
+abbrev pub GivesMode : FileTree → Row → Names → Node → Type 0
+GivesMode t r p node = IsTrue (is_some r.mode) × ((r.source ≡ Some p) ⊎ ((number : ℕ) × HasNumber t r number × (number_of (Some node) ≡ Some number)))
+
+-- what no line gives a mode stays as it is
+abbrev pub OthersKeepTheirModes : Type 0
+OthersKeepTheirModes = (t : FileTree) (rs : List Row) (p : Names) (node : Node) → ((r : Row) → Contains rs r → GivesMode t r p node → ⊥) → with_new_mode t rs p node ≡ node
+
+-- The victims that stand are what the new paths of rows replace.
+abbrev pub VictimsAreReplaced : Type 0
+VictimsAreReplaced = (t : FileTree) (rs : List Row) (p : Names) → ((is_victim rs p ≡ true) × Stands t p) ↔ ((r : Row) × Contains rs r × IsVictimOf t rs r p)
+
+-- u is the shortest of the paths above w that pass a test
+pub record IsShortestAbove (test : Names → Bool) (w u : Names) : Type 0 where
+  pub above : IsAbove u w
+  pub passes : test u ≡ true
+  pub least : (v : Names) → IsAbove v w → length v < length u → test v ≡ false
+
+-- The path that is found above a path is the shortest,
+abbrev pub FirstIsShortest : Type 0
+FirstIsShortest = (test : Names → Bool) (w u : Names) → find test (fronts w) ≡ Some u → IsShortestAbove test w u
+
+-- and none passes where none is found.
+abbrev pub NonePasses : Type 0
+NonePasses = (test : Names → Bool) (w : Names) → find test (fronts w) ≡ None → (v : Names) → IsAbove v w → test v ≡ false
