@@ -55,6 +55,13 @@ impl Paths {
     {
         &self.paths
     }
+
+    /// Gives the list back, without memory.
+    pub fn into_vec(self) -> Vec<Path>
+        ensures { result.items ≡ self }
+    {
+        self.paths
+    }
 }
 
 /// Why words ask for nothing.

@@ -1,5 +1,7 @@
+mod CarryLemmas
 mod CompleteLemmas
-mod NameLemmas
+mod CountLemmas
 mod OneLemmas
+mod RenameLemmas
 mod ReportLemmas
 mod RunLemmas

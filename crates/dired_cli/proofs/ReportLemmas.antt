@@ -1,12 +1,14 @@
 -- One piece of a text after another.
-use Rattle.std.proofs.Common.{◌≡◌, ℕ, ◌+◌, List, ◌++◌, length, take, sym, ◌∙◌, ap, subst, codes, arith, append_assoc, length-append, Result, Ok, Err}
+use Rattle.std.proofs.Common.{◌≡◌, inr, false, ℕ, ◌+◌, List, ◌++◌, length, take, sym, ◌∙◌, ap, subst, codes, arith, append_assoc, length-append, Result, Ok, Err}
 use Rattle.std.proofs.lemmas.List.{take-append-le}
 use Rattle.std.proofs.Math.Seq.{take-append-add}
 use Rattle.dired_text.specs.declared.text.Failed.{Failed}
 use Rattle.dired_text.specs.Outside.{TakesPartOf, TakesAs}
 use Rattle.tree_core.specs.declared.node.CallName.{CallName}
-use Rattle.dired_cli.specs.declared.status.Status.TheVariants.{TreeFault}
-use Rattle.dired_cli.specs.Statuses.{text_of, call_text}
+use Rattle.dired_cli.specs.declared.status.Status.{Status}
+use Rattle.dired_cli.specs.declared.status.Status.TheVariants.{Memory, TreeFault}
+use Rattle.dired_cli.specs.Reports.{Said, Reported, decided_of}
+use Rattle.dired_cli.specs.Statuses.{text_of, has_fixed_text, call_text}
 
 -- some of the first piece is some of both
 pub part_of_first : (p q old new : List ℕ) → TakesPartOf p old new → TakesPartOf (p ++ q) old new
@@ -36,3 +38,9 @@ pub fault_first : (first : CallName) (name name_bytes old new : List ℕ) → na
 fault_first first name name_bytes old new name_is call_is part =
     part_of_first (codes "dired: " ++ call_text first) (codes " failed; nothing was decided\n") old new
     (subst (λ l. TakesPartOf (codes "dired: " ++ l) old new) (name_is ∙ call_is) part)
+
+-- a text that could not be made gives way to that of `Memory`
+pub short_of_memory : (Told : Type 0) (ended : Result (List ℕ) Status) (status : Status) (text taken_before taken : List ℕ) (count_before count : ℕ) (result : Status)
+    → ended ≡ Err status → has_fixed_text status ≡ false → text ≡ text_of Memory → Said Told Memory text taken_before taken count_before count result → Reported Told ended taken_before taken count_before count result
+short_of_memory Told ended status text taken_before taken count_before count result is made text_is said =
+    inr (ap (λ r. has_fixed_text (decided_of r)) is ∙ made, subst (λ t. Said Told Memory t taken_before taken count_before count result) text_is said)

@@ -7,7 +7,7 @@ use Rattle.tree_core.specs.FileTree.{FileTree}
 use Rattle.tree_core.specs.History.{current_tree, IsDurable}
 use Rattle.tree_core.specs.Faults.{with_fault}
 use Rattle.dired_cli.specs.declared.status.Status.{Status}
-use Rattle.dired_cli.specs.declared.status.Status.TheVariants.{Done, Usage, Memory, ReadFault, TreeFault, WriteFault, Missing, BadBuffer, Faulty, Stale, TooLarge, NotBuilt}
+use Rattle.dired_cli.specs.declared.status.Status.TheVariants.{Done, Usage, Memory, ReadFault, TreeFault, WriteFault, Missing, BadBuffer, Faulty, Unconfirmed, Stale, Pending, TooLarge, NotBuilt}
 use Rattle.dired_cli.specs.Statuses.{number_of, text_of, has_fixed_text, ByCause, IsRefusal}
 use Rattle.dired_cli.specs.Reports.{Said, Reported}
 use Rattle.dired_cli.specs.Verdicts.{Verdict, Refuses, status_of, edited, FaultLeaves, IsDone}
@@ -50,7 +50,9 @@ module _ (v : Verdict) (before now : Outside) (ended : Result (List ℕ) Status)
   refusal_decides (Missing name) durable is refused trees shelves = by_verdict (Missing name) durable refused.0 refused.1 (trees, shelves)
   refusal_decides (BadBuffer name line cause) durable is refused trees shelves = by_verdict (BadBuffer name line cause) durable refused.0 refused.1 (trees, shelves)
   refusal_decides (Faulty line cause) durable is refused trees shelves = by_verdict (Faulty line cause) durable refused.0 refused.1 (trees, shelves)
+  refusal_decides (Unconfirmed line path) durable is refused trees shelves = by_verdict (Unconfirmed line path) durable refused.0 refused.1 (trees, shelves)
   refusal_decides (Stale line) durable is refused trees shelves = by_verdict (Stale line) durable refused.0 refused.1 (trees, shelves)
+  refusal_decides Pending durable is refused trees shelves = by_verdict Pending durable refused.0 refused.1 (trees, shelves)
   refusal_decides (TooLarge what number) durable is refused trees shelves = by_verdict (TooLarge what number) durable refused.0 refused.1 (trees, shelves)
   refusal_decides (NotBuilt line) durable is refused trees shelves = by_verdict (NotBuilt line) durable refused.0 refused.1 (trees, shelves)
 
@@ -65,7 +67,9 @@ module _ (v : Verdict) (before now : Outside) (ended : Result (List ℕ) Status)
   short_decides (Missing name) is made refused trees = (refused.1, trees)
   short_decides (BadBuffer name line cause) is made refused trees = (refused.1, trees)
   short_decides (Faulty line cause) is made refused trees = (refused.1, trees)
+  short_decides (Unconfirmed line path) is made refused trees = (refused.1, trees)
   short_decides (Stale line) is made refused trees = (refused.1, trees)
+  short_decides Pending is made refused trees = cc
   short_decides (TooLarge what number) is made refused trees = (refused.1, trees)
   short_decides (NotBuilt line) is made refused trees = (refused.1, trees)
 
@@ -79,7 +83,9 @@ refusal_text v t fields (WriteFault held) is = refl
 refusal_text v t fields (Missing name) is = refl
 refusal_text v t fields (BadBuffer name line cause) is = refl
 refusal_text v t fields (Faulty line cause) is = refl
+refusal_text v t fields (Unconfirmed line path) is = refl
 refusal_text v t fields (Stale line) is = refl
+refusal_text v t fields Pending is = refl
 refusal_text v t fields (TooLarge what number) is = refl
 refusal_text v t fields (NotBuilt line) is = refl
 

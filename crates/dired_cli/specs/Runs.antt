@@ -28,7 +28,7 @@ of_request (Ok request) t = on_tree request t
 abbrev pub of_command : Result Command WordsFault → Files → FileTree → Verdict
 of_command (Err words_fault.Usage) files t = Refuses Usage
 of_command (Err words_fault.Memory) files t = Refuses Memory
-of_command (Ok (command.Commit all before after confirmed)) files t = of_request (request_of files before after) t
+of_command (Ok (command.Commit all before after confirmed)) files t = of_request (request_of files before after (record { all = all; paths = confirmed })) t
 of_command (Ok (command.List switches dirs)) files t = on_dirs switches dirs (first_other t dirs)
 
 -- The first refusal, in the order of words, inputs, lines and tree, or what is to become of the tree, or its listing.

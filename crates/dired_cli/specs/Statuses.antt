@@ -1,18 +1,19 @@
 -- The numbers of the statuses, and their texts.
 use Rattle.std.specs.Prelude.{ℕ, Bool, true, false, List, [], ◌++◌, codes, decimal}
 use Rattle.dired_text.specs.Escape.{escaped}
+use Rattle.dired_text.specs.Paths.{Names as Path, joined}
 use Rattle.tree_core.specs.declared.node.CallName.{CallName}
 use Rattle.tree_core.specs.declared.node.CallName.TheVariants.{Kind, Mode, IsEmpty, Meta, Names, Read, MakeDir, MakeLink, MakeHard, WriteFile, Rename, SetMode, Remove, RemoveDir, Sync}
-use Rattle.wdired_buffer.specs.declared.faults.LineCause.{LineCause}
-use Rattle.wdired_buffer.specs.declared.faults.LineCause.TheVariants as cause
 use Rattle.dired_cli.specs.declared.status.Counted.{Counted}
 use Rattle.listing_text.specs.declared.faults.Field.{Field}
 use Rattle.listing_text.specs.declared.faults.Field.TheVariants as field
 use Rattle.wdired_buffer.specs.declared.faults.BufferCause.{BufferCause}
 use Rattle.wdired_buffer.specs.declared.faults.BufferCause.TheVariants as buffer
-use Rattle.dired_cli.specs.declared.status.Counted.TheVariants.{BufferBytes, BufferLines}
+use Rattle.dired_cli.specs.declared.status.Counted.TheVariants.{BufferBytes, BufferLines, Edits, PathBytes}
+use Rattle.dired_cli.specs.declared.status.LineCause.{LineCause}
+use Rattle.dired_cli.specs.declared.status.LineCause.TheVariants as cause
 use Rattle.dired_cli.specs.declared.status.Status.{Status}
-use Rattle.dired_cli.specs.declared.status.Status.TheVariants.{Done, Usage, Memory, ReadFault, TreeFault, WriteFault, Missing, BadBuffer, Faulty, Stale, TooLarge, NotBuilt}
+use Rattle.dired_cli.specs.declared.status.Status.TheVariants.{Done, Usage, Memory, ReadFault, TreeFault, WriteFault, Missing, BadBuffer, Faulty, Unconfirmed, Stale, Pending, TooLarge, NotBuilt}
 
 abbrev pub number_of : Status → ℕ
 number_of Done = 0
@@ -24,7 +25,9 @@ number_of (WriteFault held) = 5
 number_of (Missing name) = 6
 number_of (BadBuffer name line cause) = 7
 number_of (Faulty line cause) = 8
+number_of (Unconfirmed line path) = 9
 number_of (Stale line) = 10
+number_of Pending = 11
 number_of (TooLarge what number) = 18
 number_of (NotBuilt line) = 23
 
@@ -48,7 +51,14 @@ call_text Sync = codes "sync"
 abbrev pub counted_text : Counted → List ℕ
 counted_text BufferBytes = codes "BufferBytes"
 counted_text BufferLines = codes "BufferLines"
+counted_text Edits = codes "Edits"
+counted_text PathBytes = codes "PathBytes"
 
+-- a path as texts have it
+abbrev pub path_text : Path → List ℕ
+path_text path = escaped false (joined path)
+
+-- what is said of a cause: its name, and the number of the line or the path that it carries
 abbrev pub cause_text : LineCause → List ℕ
 cause_text cause.LineCount = codes "LineCount"
 cause_text cause.Fixed = codes "Fixed"
@@ -56,6 +66,15 @@ cause_text cause.BadName = codes "BadName"
 cause_text cause.BadMode = codes "BadMode"
 cause_text cause.BadTarget = codes "BadTarget"
 cause_text cause.Twice = codes "Twice"
+cause_text cause.Reserved = codes "Reserved"
+cause_text (cause.TwoToOne other) = codes "TwoToOne " ++ decimal other
+cause_text (cause.ModeClash other) = codes "ModeClash " ++ decimal other
+cause_text (cause.ParentNotDirectory path) = codes "ParentNotDirectory " ++ path_text path
+cause_text (cause.MovedParent other) = codes "MovedParent " ++ decimal other
+cause_text (cause.ParentTaken other) = codes "a directory to be made is taken by line " ++ decimal other
+cause_text cause.PathTooLong = codes "PathTooLong"
+cause_text (cause.TargetIsDirectory path) = codes "TargetIsDirectory " ++ path_text path
+cause_text (cause.NotEmpty path) = codes "NotEmpty " ++ path_text path
 
 abbrev pub field_text : Field → List ℕ
 field_text field.Mark = codes "Mark"
@@ -94,7 +113,9 @@ text_of (WriteFault held) = []
 text_of (Missing name) = codes "dired: no such input: " ++ escaped false name ++ codes "\n"
 text_of (BadBuffer name line cause) = bad_line_text name line cause
 text_of (Faulty line cause) = line_text line (cause_text cause)
+text_of (Unconfirmed line path) = line_text line (path_text path ++ codes " would be replaced")
 text_of (Stale line) = line_text line (codes "the file is not as shown")
+text_of Pending = codes "dired: an unfinished commit stands; run recover\n"
 text_of (TooLarge what number) = codes "dired: too large: " ++ counted_text what ++ codes " " ++ decimal number ++ codes "\n"
 text_of (NotBuilt line) = line_text line (codes "not built yet")
 
@@ -109,7 +130,9 @@ has_fixed_text (WriteFault held) = true
 has_fixed_text (Missing name) = false
 has_fixed_text (BadBuffer name line cause) = false
 has_fixed_text (Faulty line cause) = false
+has_fixed_text (Unconfirmed line path) = false
 has_fixed_text (Stale line) = false
+has_fixed_text Pending = true
 has_fixed_text (TooLarge what number) = false
 has_fixed_text (NotBuilt line) = false
 
@@ -124,7 +147,9 @@ ByCause (WriteFault held) M F G R = R
 ByCause (Missing name) M F G R = R
 ByCause (BadBuffer name line cause) M F G R = R
 ByCause (Faulty line cause) M F G R = R
+ByCause (Unconfirmed line path) M F G R = R
 ByCause (Stale line) M F G R = R
+ByCause Pending M F G R = R
 ByCause (TooLarge what number) M F G R = R
 ByCause (NotBuilt line) M F G R = R
 
@@ -139,6 +164,8 @@ IsRefusal (WriteFault held) = ⊥
 IsRefusal (Missing name) = Unit {0}
 IsRefusal (BadBuffer name line cause) = Unit {0}
 IsRefusal (Faulty line cause) = Unit {0}
+IsRefusal (Unconfirmed line path) = Unit {0}
 IsRefusal (Stale line) = Unit {0}
+IsRefusal Pending = Unit {0}
 IsRefusal (TooLarge what number) = Unit {0}
 IsRefusal (NotBuilt line) = Unit {0}

@@ -1,9 +1,10 @@
 -- What a run can carry out.
-use Rattle.std.specs.Prelude.{◌≡◌, ◌⊎◌, ◌≤◌, ℕ, Bool, true, List, [], ◌∷◌, length, Some, None, Ok}
-use Rattle.std.specs.FinMap.{get}
+use Rattle.std.specs.Prelude.{◌≡◌, ◌⊎◌, ◌≤◌, ℕ, Bool, List, length, Some, None, Ok}
 use Rattle.dired_text.specs.Paths.{Names}
+use Rattle.tree_core.specs.declared.changes.Changes.TheVariants.{Edits}
+use Rattle.tree_core.specs.declared.changes.Confirmed.{Confirmed}
 use Rattle.tree_core.specs.declared.edit.Edit.{Edit}
-use Rattle.tree_core.specs.FileTree.{FileTree, IsAbsent}
+use Rattle.tree_core.specs.FileTree.{FileTree}
 use Rattle.listing_text.specs.declared.switches.Switches.{Switches}
 use Rattle.subdir_list.specs.Listings.{first_other}
 use Rattle.wdired_buffer.specs.declared.line.BufferLine.{BufferLine}
@@ -11,20 +12,25 @@ use Rattle.wdired_buffer.specs.Buffer.{buffer_of}
 use Rattle.wdired_buffer.specs.Edits.{Asks, edits_of}
 use Rattle.command_words.specs.declared.command.Command.TheVariants as command
 use Rattle.command_words.specs.Commands.{command_of}
+use Rattle.edit_check.specs.declared.counts.Counts.{Counts}
+use Rattle.edit_check.specs.Counting.{counts_of}
+use Rattle.edit_check.specs.Rows.{rows}
+use Rattle.edit_check.specs.Sight.{sight_of}
+use Rattle.edit_check.specs.WellFormed.{CanBeMade, max_changes}
 use Rattle.dired_cli.specs.Inputs.{Files, max_buffer_bytes}
-use Rattle.dired_cli.specs.Requests.{only_name}
-use Rattle.dired_cli.specs.Verdicts.{is_as_shown}
 
--- an edit that the tree allows: a new name in the same directory and nothing else, of an entry that is as shown, to a path
--- that is free
-pub record IsAllowed (edit : Edit) (t : FileTree) : Type 0 where
-  pub to : Names
-  pub name_alone : only_name edit edit.to ≡ Some to
-  pub as_shown : is_as_shown edit.was (get t edit.source) ≡ true
-  pub free : IsAbsent t to
+-- at most one new path, and nothing else
+abbrev pub IsOneNameAtMost : Counts → Type 0
+IsOneNameAtMost c = (c.renamed ≤ 1) × (c.retargeted ≡ 0) × (c.modes ≡ 0) × (c.replaced ≡ 0) × (c.made ≡ 0) × (c.removed ≡ 0) × (c.created ≡ 0)
 
--- The words are those of a commit, both inputs are there and within the limit, BEFORE is a buffer, and AFTER asks for
--- nothing or for one edit that the tree allows. Names may be emptied.
+-- edits that the tree allows, with these confirmations
+pub record AreAllowed (edits : List Edit) (confirmed : Confirmed) (t : FileTree) : Type 0 where
+  pub few : length edits ≤ max_changes
+  pub can_be_made : CanBeMade t confirmed (rows (Edits edits))
+  pub one_name : IsOneNameAtMost (counts_of (sight_of t) (rows (Edits edits)))
+
+-- The words are those of a commit, both inputs are there and within the limit, BEFORE is a buffer, and AFTER asks for edits that
+-- the tree allows. Names may be emptied.
 pub record CanCommit (words : List (List ℕ)) (files : Files) (t : FileTree) : Type 0 where
   pub all : Bool
   pub before_name : List ℕ
@@ -41,7 +47,7 @@ pub record CanCommit (words : List (List ℕ)) (files : Files) (t : FileTree) : 
   pub after_short : length after ≤ max_buffer_bytes
   pub form : buffer_of before ≡ Ok lines
   pub edits : edits_of lines after ≡ Ok asks
-  pub allowed : (asks.edits ≡ []) ⊎ ((edit : Edit) × (asks.edits ≡ edit ∷ []) × IsAllowed edit t)
+  pub allowed : AreAllowed asks.edits (record { all = all; paths = confirmed }) t
 
 -- The words are those of a listing, and each path that they name is a directory.
 pub record CanList (words : List (List ℕ)) (t : FileTree) : Type 0 where

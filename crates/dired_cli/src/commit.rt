@@ -1,18 +1,20 @@
-// The commit of one new name.
-ghost use Rattle.std.specs.Prelude.{◌≡◌, ◌++◌, MatchResult, IfOk, IfErr, OnOk, OnErr, Some, None, is_some, string_bytes};
-ghost use Rattle.std.specs.Str.{bytes_eq};
-ghost use Rattle.std.specs.FinMap.{get};
-ghost use Rattle.tree_core.specs.FileTree.{CanRename, HasMode, Stands, renamed};
-ghost use Rattle.tree_core.specs.History.{current_tree, IsDurable, LeavesOnly, FailedAt};
+// The check of all edits, and the commit of one new path.
+ghost use Rattle.std.specs.Prelude.{◌≡◌, ◌++◌, ◌∷◌, [], MatchResult, IfOk, IfErr, OnOk};
+ghost use Rattle.std.specs.String.{string_bytes};
+ghost use Rattle.tree_core.specs.declared.changes.Changes.TheVariants.{Edits};
+ghost use Rattle.tree_core.specs.FileTree.{CanRename, renamed};
+ghost use Rattle.tree_core.specs.History.{current_tree, IsDurable, LeavesOnly};
 ghost use Rattle.tree_core.specs.Faults.{with_fault};
+ghost use Rattle.edit_check.specs.WellFormed.{AreAsked};
 ghost use Rattle.dired_cli.specs.Statuses.{ByCause, IsRefusal};
-ghost use Rattle.dired_cli.specs.Verdicts.{IsOldOrEdited, FaultLeaves, is_as_shown as is_as_shown_of, is_mode, IsLook, refusal_of, on_tree, on_change, edited, flagged_text, counts_text, summary_text, Keeps, Refuses, CanBeAsked, IsDone};
+ghost use Rattle.dired_cli.specs.Verdicts.{IsOldOrEdited, FaultLeaves, is_one_name as is_one_name_of, on_tree, on_edits, on_edit, edited, flagged_text, counts_text, summary_text, Keeps, Renames, Refuses, CanAct, IsDone};
 
-use crate::Status;
-use crate::requests::{NameChange, Request};
-use dired_text::{Bytes, Failed, Memory, Path, Text, escape};
+use crate::status::path_text;
+use crate::{Request, Status};
+use dired_text::{Bytes, Failed, Memory, Path};
+use edit_check::{Counts, check};
 use std::alloc::Global;
-use tree_core::{CallName, Kind, LookEnd, Shown, Tree};
+use tree_core::{CallName, Changes, Edit, Tree};
 
 /// Renames one path. A crash at any moment leaves the tree from before or the renamed one.
 ///
@@ -47,13 +49,14 @@ pub fn commit_one<T: Tree>(tree: &mut T, from: &Path, to: &Path) -> Result<(), C
     Ok(())
 }
 
-/// Carries out what was asked for, or nothing, and answers the line that says so. A crash at any moment leaves the tree
-/// from before or the edited one.
+/// Checks all edits, and carries them out or answers their first refusal; answers the lines that say what was done. A crash
+/// at any moment leaves the tree from before or the edited one.
 ///
 /// # Errors
-/// `Stale`, `NotBuilt` or want of memory, with the tree as before, or the first failed call of the tree.
+/// The first fault of the check, `NotBuilt` or want of memory, with the tree as before, or the first failed call of the
+/// tree.
 pub fn carry_out<T: Tree>(alloc: Global, tree: &mut T, request: Request) -> Result<Bytes, Status>
-    requires can { CanBeAsked request.change }
+    requires can { AreAsked (Edits request.edits) }
     requires durable { T.Tells → IsDurable (T.history tree.old) }
 
     ensures done { T.Tells →
@@ -75,11 +78,103 @@ pub fn carry_out<T: Tree>(alloc: Global, tree: &mut T, request: Request) -> Resu
         same (λ first. T.faults tree.new ≡ with_fault first (T.faults tree.old)) (λ _. ⊥) same) }
     ensures end { IfErr result IsRefusal }
 {
-    let flagged = request.flagged.as_slice();
-    match &request.change {
-        None => sync_alone(alloc, tree, flagged),
-        Some(change) => commit_change(alloc, tree, change, flagged),
+    let Request {
+        edits,
+        confirmed,
+        flagged,
+    } = request;
+    let checked = check(alloc, tree, Changes::Edits(edits), &confirmed)?;
+    let counts = checked.counts();
+    match checked.changes() {
+        Changes::Edits(edits) => act(alloc, tree, edits.as_slice(), counts, flagged.as_slice()),
+        Changes::Removals(_) | Changes::Creations(_) => unreachable!(),
     }
+}
+
+// Carries out edits that can be made, and that change so much.
+fn act<T: Tree>(
+    alloc: Global,
+    tree: &mut T,
+    edits: &[Edit],
+    counts: Counts,
+    flagged: &[Path],
+) -> Result<Bytes, Status>
+    requires can { T.Tells → CanAct (current_tree (T.history tree.old)) counts edits.now }
+    requires durable { T.Tells → IsDurable (T.history tree.old) }
+
+    ensures done { T.Tells →
+        let old = current_tree (T.history tree.old) in
+        IfOk result (λ text. IsDone (on_edits counts edits.now flagged.now) old (T.fields tree.old) (T.history tree.new) text) }
+    ensures refused { T.Tells →
+        let old = current_tree (T.history tree.old) in
+        let v = on_edits counts edits.now flagged.now in
+        IfErr result (λ status. ByCause status
+        (T.history tree.new ≡ T.history tree.old)
+        (λ first. FaultLeaves first old (edited v old) (T.before_failed tree.new) (current_tree (T.history tree.new)))
+        (λ _. ⊥)
+        ((v ≡ Refuses status) × (T.history tree.new ≡ T.history tree.old))) }
+    ensures any_moment { T.Tells →
+        let old = current_tree (T.history tree.old) in
+        LeavesOnly (T.history tree.old) (T.history tree.new) (IsOldOrEdited old (edited (on_edits counts edits.now flagged.now) old)) }
+    ensures cause { let same = T.faults tree.new ≡ T.faults tree.old in
+        MatchResult result (λ _. same) (λ status. ByCause status
+        same (λ first. T.faults tree.new ≡ with_fault first (T.faults tree.old)) (λ _. ⊥) same) }
+    ensures end { IfErr result IsRefusal }
+{
+    match edits {
+        [] => sync_alone(alloc, tree, flagged),
+        [edit] => act_on_one(alloc, tree, edit, counts, flagged),
+        [_, second, ..] => Err(Status::NotBuilt { line: second.line }),
+    }
+}
+
+// Carries out the only edit.
+fn act_on_one<T: Tree>(
+    alloc: Global,
+    tree: &mut T,
+    edit: &Edit,
+    counts: Counts,
+    flagged: &[Path],
+) -> Result<Bytes, Status>
+    requires can { T.Tells → CanAct (current_tree (T.history tree.old)) counts (edit.now ∷ []) }
+    requires durable { T.Tells → IsDurable (T.history tree.old) }
+
+    ensures done { T.Tells →
+        let old = current_tree (T.history tree.old) in
+        IfOk result (λ text. IsDone (on_edit counts edit.now edit.now.to flagged.now) old (T.fields tree.old) (T.history tree.new) text) }
+    ensures refused { T.Tells →
+        let old = current_tree (T.history tree.old) in
+        let v = on_edit counts edit.now edit.now.to flagged.now in
+        IfErr result (λ status. ByCause status
+        (T.history tree.new ≡ T.history tree.old)
+        (λ first. FaultLeaves first old (edited v old) (T.before_failed tree.new) (current_tree (T.history tree.new)))
+        (λ _. ⊥)
+        ((v ≡ Refuses status) × (T.history tree.new ≡ T.history tree.old))) }
+    ensures any_moment { T.Tells →
+        let old = current_tree (T.history tree.old) in
+        LeavesOnly (T.history tree.old) (T.history tree.new) (IsOldOrEdited old (edited (on_edit counts edit.now edit.now.to flagged.now) old)) }
+    ensures cause { let same = T.faults tree.new ≡ T.faults tree.old in
+        MatchResult result (λ _. same) (λ status. ByCause status
+        same (λ first. T.faults tree.new ≡ with_fault first (T.faults tree.old)) (λ _. ⊥) same) }
+    ensures end { IfErr result IsRefusal }
+{
+    match &edit.to {
+        Some(to) if is_one_name(counts) => rename(alloc, tree, &edit.source, to, flagged),
+        _ => Err(Status::NotBuilt { line: edit.line }),
+    }
+}
+
+// Whether one new path is all that changes: nothing is replaced for it, and no directory made.
+fn is_one_name(counts: Counts) -> bool
+    ensures { result ≡ is_one_name_of counts }
+{
+    counts.renamed == 1
+        && counts.retargeted == 0
+        && counts.modes == 0
+        && counts.replaced == 0
+        && counts.made == 0
+        && counts.removed == 0
+        && counts.created == 0
 }
 
 // Where nothing is asked for.
@@ -112,72 +207,44 @@ fn sync_alone<T: Tree>(alloc: Global, tree: &mut T, flagged: &[Path]) -> Result<
     }
 }
 
-// Where one new name is asked for.
-fn commit_change<T: Tree>(
+// Where one path is to be renamed.
+fn rename<T: Tree>(
     alloc: Global,
     tree: &mut T,
-    change: &NameChange,
+    source: &Path,
+    to: &Path,
     flagged: &[Path],
 ) -> Result<Bytes, Status>
-    requires can { CanBeAsked (Some change.now) }
+    requires can { T.Tells → CanRename (current_tree (T.history tree.old)) source.now to.now }
     requires durable { T.Tells → IsDurable (T.history tree.old) }
 
     ensures done { T.Tells →
         let old = current_tree (T.history tree.old) in
-        IfOk result (λ text. IsDone (on_change (Some change.now) flagged.now old) old (T.fields tree.old) (T.history tree.new) text) }
+        IfOk result (λ text. IsDone (Renames source.now to.now flagged.now) old (T.fields tree.old) (T.history tree.new) text) }
     ensures refused { T.Tells →
         let old = current_tree (T.history tree.old) in
-        let v = on_change (Some change.now) flagged.now old in
         IfErr result (λ status. ByCause status
         (T.history tree.new ≡ T.history tree.old)
-        (λ first. FaultLeaves first old (edited v old) (T.before_failed tree.new) (current_tree (T.history tree.new)))
-        (λ _. ⊥)
-        ((v ≡ Refuses status) × (T.history tree.new ≡ T.history tree.old))) }
+        (λ first. FaultLeaves first old (renamed old source.now to.now) (T.before_failed tree.new) (current_tree (T.history tree.new)))
+        (λ _. ⊥) ⊥) }
     ensures any_moment { T.Tells →
         let old = current_tree (T.history tree.old) in
-        LeavesOnly (T.history tree.old) (T.history tree.new) (IsOldOrEdited old (edited (on_change (Some change.now) flagged.now old) old)) }
+        LeavesOnly (T.history tree.old) (T.history tree.new) (IsOldOrEdited old (renamed old source.now to.now)) }
     ensures cause { let same = T.faults tree.new ≡ T.faults tree.old in
         MatchResult result (λ _. same) (λ status. ByCause status
-        same (λ first. T.faults tree.new ≡ with_fault first (T.faults tree.old)) (λ _. ⊥) same) }
+        same (λ first. T.faults tree.new ≡ with_fault first (T.faults tree.old)) (λ _. ⊥) ⊥) }
     ensures end { IfErr result IsRefusal }
 {
-    look(alloc, tree, change)?;
     let Ok(text) = summary(alloc, 1, flagged) else {
         return Err(Status::Memory);
     };
-    match commit_one(tree, &change.source, &change.to) {
+    match commit_one(tree, source, to) {
         Ok(()) => Ok(text),
         Err(first) => Err(Status::TreeFault { first }),
     }
 }
 
-// Whether the change can be made: its line is as shown, and nothing stands at its new path.
-fn look<T: Tree>(alloc: Global, tree: &mut T, change: &NameChange) -> Result<(), Status>
-    ensures ok { T.Tells → OnOk result (refusal_of change.now (current_tree (T.history tree.old)) ≡ None) }
-    ensures refused { T.Tells →
-        let old = current_tree (T.history tree.old) in
-        IfErr result (λ status. ByCause status
-        (Unit {0}) (λ first. T.before_failed tree.new ≡ old) (λ _. ⊥)
-        (refusal_of change.now old ≡ Some status)) }
-    ensures history { T.Tells → T.history tree.new ≡ T.history tree.old }
-    ensures cause { let same = T.faults tree.new ≡ T.faults tree.old in
-        MatchResult result (λ _. same) (λ status. ByCause status
-        same (λ first. IsLook first × (T.faults tree.new ≡ with_fault first (T.faults tree.old))) (λ _. ⊥) same) }
-    ensures end { IfErr result IsRefusal }
-{
-    match is_as_shown(alloc, tree, &change.source, &change.was) {
-        Err(end) => return Err(end),
-        Ok(false) => return Err(Status::Stale { line: change.line }),
-        Ok(true) => {}
-    }
-    match stands(tree, &change.to) {
-        Err(first) => Err(Status::TreeFault { first }),
-        Ok(true) => Err(Status::NotBuilt { line: change.line }),
-        Ok(false) => Ok(()),
-    }
-}
-
-// What a commit of so many new names writes.
+// What a commit of so many new paths writes.
 fn summary(alloc: Global, names: u32, flagged: &[Path]) -> Result<Bytes, Memory>
     ensures { IfOk result (λ text. text ≡ summary_text names flagged.now) }
 {
@@ -204,103 +271,9 @@ fn push_counts(text: &mut String, names: u32, flagged: usize) -> Result<(), Memo
 fn push_flagged(text: &mut String, path: &Path) -> Result<(), Memory>
     ensures { OnOk result (string_bytes text.new ≡ string_bytes text.old ++ flagged_text path.now) }
 {
-    let shown = path.text()?;
-    let shown = escape(*text.allocator(), shown.as_str(), false)?;
+    let shown = path_text(*text.allocator(), path)?;
     text.push_str("flagged ")?;
     text.push_str(shown.as_str())?;
     text.push_str("\n")?;
     Ok(())
-}
-
-// Whether what stands at the path is as a line shows it: of the same kind, as a link with the same target, else of the
-// same mode.
-fn is_as_shown<T: Tree>(
-    alloc: Global,
-    tree: &mut T,
-    path: &Path,
-    was: &Shown,
-) -> Result<bool, Status>
-    ensures shown { T.Tells → IfOk result (λ b. b ≡ is_as_shown_of was.now (get (current_tree (T.history tree.old)) path.now)) }
-    ensures history { T.Tells → T.history tree.new ≡ T.history tree.old }
-    ensures refused { IfErr result (λ status. ByCause status
-        (T.faults tree.new ≡ T.faults tree.old)
-        (λ first. IsLook first × (T.faults tree.new ≡ with_fault first (T.faults tree.old)) × (T.Tells → T.before_failed tree.new ≡ current_tree (T.history tree.old)))
-        (λ _. ⊥) ⊥) }
-    ensures held { OnOk result (T.faults tree.new ≡ T.faults tree.old) }
-    ensures end { IfErr result IsRefusal }
-{
-    let Ok(kind) = tree.kind(path) else {
-        return Err(Status::TreeFault {
-            first: CallName::Kind,
-        });
-    };
-    if kind != Some(was.kind) {
-        return Ok(false);
-    }
-    match was.kind {
-        Kind::Link => has_target(alloc, tree, path, &was.target),
-        Kind::File | Kind::Dir => has_mode(tree, path, was.mode),
-    }
-}
-
-// Whether a file or directory has this mode.
-fn has_mode<T: Tree>(tree: &mut T, path: &Path, mode: u16) -> Result<bool, Status>
-    requires stands { T.Tells → HasMode (current_tree (T.history tree.old)) path.now }
-    ensures mode { T.Tells → IfOk result (λ b. b ≡ is_mode mode (get (current_tree (T.history tree.old)) path.now)) }
-    ensures history { T.Tells → T.history tree.new ≡ T.history tree.old }
-    ensures refused { IfErr result (λ status. ByCause status
-        ⊥
-        (λ first. IsLook first × (T.faults tree.new ≡ with_fault first (T.faults tree.old)) × (T.Tells → T.before_failed tree.new ≡ current_tree (T.history tree.old)))
-        (λ _. ⊥) ⊥) }
-    ensures held { OnOk result (T.faults tree.new ≡ T.faults tree.old) }
-    ensures end { IfErr result IsRefusal }
-{
-    match tree.mode(path) {
-        Ok(now) => Ok(now == mode),
-        Err(Failed) => Err(Status::TreeFault {
-            first: CallName::Mode,
-        }),
-    }
-}
-
-// Whether a link has this target.
-fn has_target<T: Tree>(
-    alloc: Global,
-    tree: &mut T,
-    path: &Path,
-    target: &Text,
-) -> Result<bool, Status>
-    requires stands { T.Tells → Stands (current_tree (T.history tree.old)) path.now }
-    ensures target { T.Tells → IfOk result (λ b. b ≡ bytes_eq (T.fields tree.old path.now).target target.now) }
-    ensures history { T.Tells → T.history tree.new ≡ T.history tree.old }
-    ensures refused { IfErr result (λ status. ByCause status
-        (T.faults tree.new ≡ T.faults tree.old)
-        (λ first. IsLook first × (T.faults tree.new ≡ with_fault first (T.faults tree.old)) × (T.Tells → T.before_failed tree.new ≡ current_tree (T.history tree.old)))
-        (λ _. ⊥) ⊥) }
-    ensures held { OnOk result (T.faults tree.new ≡ T.faults tree.old) }
-    ensures end { IfErr result IsRefusal }
-{
-    match tree.meta(alloc, path) {
-        Ok(meta) => Ok(meta.target.as_str() == target.as_str()),
-        Err(LookEnd::Failed) => Err(Status::TreeFault {
-            first: CallName::Meta,
-        }),
-        Err(LookEnd::Memory) => Err(Status::Memory),
-    }
-}
-
-// Whether something stands at the path.
-fn stands<T: Tree>(tree: &mut T, path: &Path) -> Result<bool, CallName>
-    ensures stands { T.Tells → IfOk result (λ b. b ≡ is_some (get (current_tree (T.history tree.old)) path.now)) }
-    ensures history { T.Tells → T.history tree.new ≡ T.history tree.old }
-    ensures found { T.Tells → OnErr result (T.before_failed tree.new ≡ current_tree (T.history tree.old)) }
-    ensures look { IfErr result IsLook }
-    ensures cause { MatchResult result
-        (λ _. T.faults tree.new ≡ T.faults tree.old)
-        (λ first. T.faults tree.new ≡ with_fault first (T.faults tree.old)) }
-{
-    match tree.kind(path) {
-        Err(Failed) => Err(CallName::Kind),
-        Ok(kind) => Ok(kind.is_some()),
-    }
 }

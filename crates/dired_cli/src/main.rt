@@ -12,8 +12,8 @@ mod status;
 mod tests;
 
 pub use program::run;
-pub use requests::{NameChange, Request};
-pub use status::{Counted, Status};
+pub use requests::Request;
+pub use status::{Counted, LineCause, Status};
 use std::env;
 use std::process::ExitCode;
 use tree_host::{FileShelf, HostTree, OutSink};

@@ -20,14 +20,14 @@ use crate::requests::asked_for;
 use command_words::{Command, WordsFault, read_words};
 use dired_text::{Bytes, Shelf, Sink};
 use std::alloc::Global;
-use tree_core::Tree;
+use tree_core::{Confirmed, Items, Tree};
 
 /// Carries out the words of a command line, and answers the status. Its text, or at `Done` the summary, is the last line
 /// written.
 ///
 /// `list [-A] [-l] [-t] [-S] [-r] [DIR]...` prints the listing of the root and of each DIR. `commit [--all] BEFORE AFTER
-/// [CONFIRMED]...` compares a listing as printed with the same listing as edited, and gives one entry its new name in its
-/// directory; it names the entries whose names were emptied.
+/// [CONFIRMED]...` compares a listing as printed with the same listing as edited, checks all edits against the tree, and
+/// gives one entry its new path; it names the entries whose names were emptied.
 pub fn run<T: Tree, H: Shelf, W: Sink>(
     alloc: Global,
     words: &[String],
@@ -129,8 +129,19 @@ fn decide<T: Tree, H: Shelf>(
 {
     match read_words(alloc, words) {
         Ok(Command::List { switches, dirs }) => list(alloc, tree, &switches, dirs.as_slice()),
-        Ok(Command::Commit { before, after, .. }) => {
-            match asked_for(alloc, &before, &after, shelf) {
+        Ok(
+            Command::Commit {
+                all,
+                before,
+                after,
+                confirmed,
+            },
+        ) => {
+            let confirmed = Confirmed {
+                all,
+                paths: Items::from_vec(confirmed.into_vec()),
+            };
+            match asked_for(alloc, &before, &after, confirmed, shelf) {
                 Ok(request) => carry_out(alloc, tree, request),
                 Err(status) => Err(status),
             }

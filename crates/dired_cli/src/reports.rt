@@ -6,7 +6,7 @@ ghost use Rattle.dired_cli.specs.Statuses.{text_of, has_fixed_text};
 ghost use Rattle.dired_cli.specs.Reports.{Said, Reported};
 
 use crate::Status;
-use crate::status::{NOTHING_DECIDED, OUT_OF_MEMORY, USAGE, call_text};
+use crate::status::{NOTHING_DECIDED, OUT_OF_MEMORY, PENDING, USAGE, call_text};
 use dired_text::{Bytes, Failed, Sink};
 use std::alloc::Global;
 use tree_core::CallName;
@@ -33,6 +33,7 @@ fn say_fixed<W: Sink>(sink: &mut W, status: Status) -> Status
     match status {
         Status::Usage => say(sink, USAGE.as_bytes(), Status::Usage),
         Status::Memory => say(sink, OUT_OF_MEMORY.as_bytes(), Status::Memory),
+        Status::Pending => say(sink, PENDING.as_bytes(), Status::Pending),
         Status::TreeFault { first } => say_tree_fault(sink, first),
         Status::Done => say(sink, b"", Status::Done),
         Status::WriteFault { held } => say(sink, b"", Status::WriteFault { held }),
@@ -40,6 +41,7 @@ fn say_fixed<W: Sink>(sink: &mut W, status: Status) -> Status
         | Status::Missing { .. }
         | Status::BadBuffer { .. }
         | Status::Faulty { .. }
+        | Status::Unconfirmed { .. }
         | Status::Stale { .. }
         | Status::TooLarge { .. }
         | Status::NotBuilt { .. } => unreachable!(),

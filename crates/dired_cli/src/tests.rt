@@ -10,6 +10,8 @@ use tree_core::{Entry, Kind, MemTree, Node, Tree};
 const BEFORE: &str =
     "dired 1\n  .:\n  total 2\n  -rw-r--r-- 1 u g 0 1970-01-01 00:00 a\n  -rw-r--r-- 1 u g 0 1970-01-01 00:00 b\n";
 
+const BEFORE_A_NAME: &str = "dired 1\n  .:\n  total 2\n  -rw-r--r-- 1 u g 0 1970-01-01 00:00 ";
+
 const RENAMED: &str =
     "dired 1\n  .:\n  total 2\n  -rw-r--r-- 1 u g 0 1970-01-01 00:00 c\n  -rw-r--r-- 1 u g 0 1970-01-01 00:00 b\n";
 
@@ -22,11 +24,13 @@ const FLAGGED: &str =
 
 const STALE: &str = "dired: line 4: the file is not as shown\n";
 
-// The path of one name.
-fn path_of(alloc: Global, name: &str) -> Result<Path, Memory> {
+// The path of names joined by `/`.
+fn path_of(alloc: Global, text: &str) -> Result<Path, Memory> {
     let mut names = Vec::new(alloc);
-    if let Some(name) = Name::new(alloc, name)? {
-        names.push(name)?;
+    for name in text.split('/') {
+        if let Some(name) = Name::new(alloc, name)? {
+            names.push(name)?;
+        }
     }
     match Path::join(alloc, &names)? {
         Some(path) => Ok(path),
@@ -34,12 +38,19 @@ fn path_of(alloc: Global, name: &str) -> Result<Path, Memory> {
     }
 }
 
-// A tree of empty files with these names, whose first one has this mode and the others 0o644.
-fn tree_of(alloc: Global, names: &[&str], mode: u16) -> Result<MemTree, Memory> {
+// A tree of directories and of empty files with these names. The first file has this mode and the others 0o644.
+fn tree_of(alloc: Global, dirs: &[&str], files: &[&str], mode: u16) -> Result<MemTree, Memory> {
     let mut entries = Vec::new(alloc);
+    for name in dirs {
+        entries.push(Entry {
+            path: path_of(alloc, name)?,
+            node: Node::Dir(0o755),
+            mtime: 0,
+        })?;
+    }
     let mut number = 0u64;
     let mut mode = mode;
-    for name in names {
+    for name in files {
         entries.push(Entry {
             path: path_of(alloc, name)?,
             node: Node::File {
@@ -131,10 +142,10 @@ fn try_run<T: Tree, H: Shelf, W: Sink>(
     Ok(run(alloc, &list, tree, shelf, sink))
 }
 
-// Which of the names `a`, `b`, `c` and `k` are files, in this order.
+// Which of the paths `a`, `b`, `c`, `k` and `d/a` are files, in this order.
 fn standing<T: Tree>(alloc: Global, tree: &mut T) -> Result<String, Memory> {
     let mut names = String::new(alloc);
-    for name in ["a", "b", "c", "k"] {
+    for name in ["a", "b", "c", "k", "d/a"] {
         if tree.kind(&path_of(alloc, name)?) == Ok(Some(Kind::File)) {
             names.push_str(name)?;
         }
@@ -153,6 +164,8 @@ fn commits_and_refusals(rt: HostRuntime) -> Result<(), Fail> {
         "dired 1\n  .:\n  total 2\n  -rw-r--r-- 1 u g 0 1970-01-01 00:00 x/..\n  -rw-r--r-- 1 u g 0 1970-01-01 00:00 b\n";
     let both =
         "dired 1\n  .:\n  total 2\n  -rw-r--r-- 1 u g 0 1970-01-01 00:00 c\n  -rw-r--r-- 1 u g 0 1970-01-01 00:00 d\n";
+    let clash =
+        "dired 1\n  .:\n  total 2\n  -rw-r--r-- 1 u g 0 1970-01-01 00:00 c\n  -rw-r--r-- 1 u g 0 1970-01-01 00:00 c\n";
     let one = "dired 1\n  .:\n  total 1\n  -rw-r--r-- 1 u g 0 1970-01-01 00:00 a\n";
     let taken = "dired 1\n  .:\n  total 1\n  -rw-r--r-- 1 u g 0 1970-01-01 00:00 b\n";
     let other = "dired 2\n  .:\n  total 1\n  -rw-r--r-- 1 u g 0 1970-01-01 00:00 a\n";
@@ -163,12 +176,24 @@ fn commits_and_refusals(rt: HostRuntime) -> Result<(), Fail> {
         "dired 1\n  .:\n  total 2\n  -rw------- 1 u g 0 1970-01-01 00:00 a\n  -rw-r--r-- 1 u g 0 1970-01-01 00:00 b\n";
     let below =
         "dired 1\n  .:\n  total 2\n  -rw-r--r-- 1 u g 0 1970-01-01 00:00 x/a\n  -rw-r--r-- 1 u g 0 1970-01-01 00:00 b\n";
+    let mut long = String::from_str(alloc, BEFORE_A_NAME)?;
+    for _ in 0..256 {
+        long.push_str("n")?;
+    }
+    long.push_str("\n  -rw-r--r-- 1 u g 0 1970-01-01 00:00 b\n")?;
     let not_built = "dired: line 4: not built yet\n";
     let cases = [
         (BEFORE, RENAMED, 0o644, 0, ONE, "bc"),
         (BEFORE, BEFORE, 0o644, 0, NONE, "ab"),
         (BEFORE, emptied, 0o644, 0, FLAGGED, "ab"),
-        (one, taken, 0o644, 23, not_built, "ab"),
+        (
+            one,
+            taken,
+            0o644,
+            9,
+            "dired: line 4: b would be replaced\n",
+            "ab",
+        ),
         (BEFORE, mode, 0o644, 23, not_built, "ab"),
         (BEFORE, below, 0o644, 23, not_built, "ab"),
         (
@@ -179,10 +204,20 @@ fn commits_and_refusals(rt: HostRuntime) -> Result<(), Fail> {
             "dired: line 5: not built yet\n",
             "ab",
         ),
+        (BEFORE, clash, 0o644, 8, "dired: line 4: TwoToOne 5\n", "ab"),
         (BEFORE, RENAMED, 0o600, 10, STALE, "ab"),
+        (BEFORE, clash, 0o600, 10, STALE, "ab"),
         (BEFORE, owner, 0o644, 8, "dired: line 4: Fixed\n", "ab"),
         (BEFORE, longer, 0o644, 8, "dired: line 6: LineCount\n", "ab"),
         (BEFORE, root, 0o644, 8, "dired: line 4: BadName\n", "ab"),
+        (
+            BEFORE,
+            long.as_str(),
+            0o644,
+            8,
+            "dired: line 4: BadName\n",
+            "ab",
+        ),
         (
             other,
             other,
@@ -201,7 +236,7 @@ fn commits_and_refusals(rt: HostRuntime) -> Result<(), Fail> {
         ),
     ];
     for (before, after, mode, number, output, left) in cases {
-        let mut tree = tree_of(alloc, &["a", "b"], mode)?;
+        let mut tree = tree_of(alloc, &[], &["a", "b"], mode)?;
         let mut shelf = shelf_of(alloc, before, after, &[])?;
         let mut sink = MemSink::new(alloc, Vec::new(alloc))?;
         assert!(rt; settle(&mut tree));
@@ -212,6 +247,93 @@ fn commits_and_refusals(rt: HostRuntime) -> Result<(), Fail> {
             &mut shelf,
             &mut sink,
         )?;
+        assert_eq!(rt; status.number(), number, "at {output}");
+        assert_eq!(rt; sink.taken(), output.as_bytes());
+        assert_eq!(rt; standing(alloc, &mut tree)?.as_str(), left, "at {output}");
+    }
+    Ok(())
+}
+
+// What the check says of directories, of what would be replaced, and of an unfinished commit.
+#[test]
+fn checks(rt: HostRuntime) -> Result<(), Fail> {
+    let alloc = rt.alloc();
+    let one = "dired 1\n  .:\n  total 1\n  -rw-r--r-- 1 u g 0 1970-01-01 00:00 a\n";
+    let to_k = "dired 1\n  .:\n  total 1\n  -rw-r--r-- 1 u g 0 1970-01-01 00:00 k\n";
+    let to_d = "dired 1\n  .:\n  total 1\n  -rw-r--r-- 1 u g 0 1970-01-01 00:00 d/a\n";
+    let onto_d = "dired 1\n  .:\n  total 1\n  -rw-r--r-- 1 u g 0 1970-01-01 00:00 d\n";
+    let below_k = "dired 1\n  .:\n  total 1\n  -rw-r--r-- 1 u g 0 1970-01-01 00:00 k/a\n";
+    let held = "dired 1\n  .:\n  total 1\n  -rw-r--r-- 1 u g 0 1970-01-01 00:00 .wdired-commit\n";
+    let dir = "dired 1\n  .:\n  total 1\n  drwxr-xr-x 1 u g 0 1970-01-01 00:00 d\n";
+    let dir_below = "dired 1\n  .:\n  total 1\n  drwxr-xr-x 1 u g 0 1970-01-01 00:00 d/b/d\n";
+    let made =
+        "dired 1\n  .:\n  total 2\n  -rw-r--r-- 1 u g 0 1970-01-01 00:00 new/deep/a\n  -rw-r--r-- 1 u g 0 1970-01-01 00:00 new\n";
+    let replaced = "dired: line 4: k would be replaced\n";
+    let not_built = "dired: line 4: not built yet\n";
+    let taken = "dired: line 4: a directory to be made is taken by line 5\n";
+    let not_dir = "dired: line 4: ParentNotDirectory k\n";
+    let is_dir = "dired: line 4: TargetIsDirectory d\n";
+    let moved = "dired: line 4: MovedParent 4\n";
+    let reserved = "dired: line 4: Reserved\n";
+    let pending = "dired: an unfinished commit stands; run recover\n";
+    let plain: &[&str] = &["commit", "B", "A"];
+    // The words, the directories, the files, the two inputs, the status, what is written, and the files that are left.
+    let cases: [(&[&str], &[&str], &[&str], &str, &str, u8, &str, &str); 12] = [
+        (plain, &[], &["a", "b"], BEFORE, made, 8, taken, "ab"),
+        (plain, &["d"], &[], dir, dir_below, 8, moved, ""),
+        (plain, &[], &["a", "k"], one, below_k, 8, not_dir, "ak"),
+        (plain, &["d"], &["a"], one, onto_d, 8, is_dir, "a"),
+        (plain, &[], &["a"], one, held, 8, reserved, "a"),
+        (plain, &[], &["a", "k"], one, to_k, 9, replaced, "ak"),
+        (
+            &["commit", "B", "A", "k"],
+            &[],
+            &["a", "k"],
+            one,
+            to_k,
+            23,
+            not_built,
+            "ak",
+        ),
+        (
+            &["commit", "--all", "B", "A"],
+            &[],
+            &["a", "k"],
+            one,
+            to_k,
+            23,
+            not_built,
+            "ak",
+        ),
+        (
+            plain,
+            &[".wdired-commit"],
+            &["a"],
+            one,
+            to_k,
+            11,
+            pending,
+            "a",
+        ),
+        (
+            plain,
+            &[".wdired-commit"],
+            &["a"],
+            one,
+            one,
+            11,
+            pending,
+            "a",
+        ),
+        (plain, &["d"], &["a"], one, to_d, 0, ONE, "d/a"),
+        (plain, &[], &["a"], one, to_d, 23, not_built, "a"),
+    ];
+    for (words, dirs, files, before, after, number, output, left) in cases {
+        let mut tree = tree_of(alloc, dirs, files, 0o644)?;
+        let mut shelf = shelf_of(alloc, before, after, &[])?;
+        let mut sink = MemSink::new(alloc, Vec::new(alloc))?;
+        assert!(rt; settle(&mut tree));
+        let status = try_run(alloc, words, &mut tree, &mut shelf, &mut sink)?;
         assert_eq!(rt; status.number(), number, "at {output}");
         assert_eq!(rt; sink.taken(), output.as_bytes());
         assert_eq!(rt; standing(alloc, &mut tree)?.as_str(), left, "at {output}");
@@ -236,7 +358,7 @@ fn words_inputs_and_output(rt: HostRuntime) -> Result<(), Fail> {
         (&["commit", "B", "A"], &[], &[0], 5, "", "bc"),
     ];
     for (words, fail_reads, fail_writes, number, output, left) in cases {
-        let mut tree = tree_of(alloc, &["a", "b"], 0o644)?;
+        let mut tree = tree_of(alloc, &[], &["a", "b"], 0o644)?;
         let mut shelf = shelf_of(alloc, BEFORE, RENAMED, fail_reads)?;
         let mut sink = MemSink::new(alloc, Vec::from_slice(alloc, fail_writes)?)?;
         assert!(rt; settle(&mut tree));
@@ -288,30 +410,54 @@ fn listings(rt: HostRuntime) -> Result<(), Fail> {
     Ok(())
 }
 
-// Each look and each changing call of one commit fails in turn, done and not done. Of what stands each crash leaves the old or the
-// edited tree.
+// Each look of one commit fails in turn, from the first to the last. None changes the tree.
 #[test]
-fn each_call_fails(rt: HostRuntime) -> Result<(), Fail> {
+fn each_look_fails(rt: HostRuntime) -> Result<(), Fail> {
     let alloc = rt.alloc();
-    // The looks that fail, the changing calls that fail, where the sync of `settle` is call 0, the name of the call, the
-    // files that stand, and how many images there are.
-    let cases: [(&[u64], &[(u64, bool)], &str, &str, usize); 9] = [
-        (&[0], &[], "kind", "ab", 2),
-        (&[1], &[], "mode", "ab", 2),
-        (&[2], &[], "kind", "ab", 2),
-        (&[], &[(1, false)], "sync", "ab", 2),
-        (&[], &[(1, true)], "sync", "ab", 2),
-        (&[], &[(2, false)], "rename", "ab", 2),
-        (&[], &[(2, true)], "rename", "bc", 4),
-        (&[], &[(3, false)], "sync", "bc", 4),
-        (&[], &[(3, true)], "sync", "bc", 2),
+    let mut failed = 0;
+    for look in 0..32 {
+        let mut tree = tree_of(alloc, &[], &["a", "b"], 0o644)?;
+        let mut shelf = shelf_of(alloc, BEFORE, RENAMED, &[])?;
+        let mut sink = MemSink::new(alloc, Vec::new(alloc))?;
+        tree.fail_looks(&[look])?;
+        assert!(rt; settle(&mut tree));
+        let words = ["commit", "B", "A"];
+        let status = try_run(alloc, &words, &mut tree, &mut shelf, &mut sink)?;
+        tree.fail_looks(&[])?;
+        if status == Status::Done {
+            assert_eq!(rt; standing(alloc, &mut tree)?.as_str(), "bc");
+        } else {
+            assert_eq!(rt; look, failed, "after a look that did not fail");
+            assert_eq!(rt; status.number(), 4, "at {look}");
+            assert_eq!(rt; standing(alloc, &mut tree)?.as_str(), "ab", "at {look}");
+            failed += 1;
+        }
+    }
+    // The staging directory, the source and the new path, at least.
+    assert!(rt; 3 <= failed && failed < 32);
+    Ok(())
+}
+
+// Each changing call of one commit fails in turn, done and not done. Of what stands each crash leaves the old or the edited
+// tree.
+#[test]
+fn each_change_fails(rt: HostRuntime) -> Result<(), Fail> {
+    let alloc = rt.alloc();
+    // The changing calls that fail, where the sync of `settle` is call 0, the name of the call, the files that stand, and how
+    // many images there are.
+    let cases: [(&[(u64, bool)], &str, &str, usize); 6] = [
+        (&[(1, false)], "sync", "ab", 2),
+        (&[(1, true)], "sync", "ab", 2),
+        (&[(2, false)], "rename", "ab", 2),
+        (&[(2, true)], "rename", "bc", 4),
+        (&[(3, false)], "sync", "bc", 4),
+        (&[(3, true)], "sync", "bc", 2),
     ];
-    for (looks, changes, call, left, image_count) in cases {
-        let mut tree = tree_of(alloc, &["a", "b"], 0o644)?;
+    for (changes, call, left, image_count) in cases {
+        let mut tree = tree_of(alloc, &[], &["a", "b"], 0o644)?;
         let mut shelf = shelf_of(alloc, BEFORE, RENAMED, &[])?;
         let mut sink = MemSink::new(alloc, Vec::new(alloc))?;
         tree.fail_changes(changes)?;
-        tree.fail_looks(looks)?;
         assert!(rt; settle(&mut tree));
         let words = ["commit", "B", "A"];
         let status = try_run(alloc, &words, &mut tree, &mut shelf, &mut sink)?;
@@ -319,7 +465,6 @@ fn each_call_fails(rt: HostRuntime) -> Result<(), Fail> {
         assert_eq!(rt; status.number(), 4, "at {call}");
         assert_eq!(rt; sink.taken(), output.as_bytes());
         assert_eq!(rt; tree.short(), 0);
-        tree.fail_looks(&[])?;
         assert_eq!(rt; standing(alloc, &mut tree)?.as_str(), left, "at {call}");
         let images = tree.images()?;
         assert_eq!(rt; images.len(), image_count, "at {call}");

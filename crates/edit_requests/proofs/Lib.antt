@@ -1,4 +1,4 @@
 mod ReadLemmas
 mod LineLemmas
 mod AskedLemmas
-mod RequestLemmas
+pub mod RequestLemmas

@@ -21,4 +21,4 @@ returns-clause-complete g c tells also formed trees reads writes =
     let now : Outside = record { history = g.T.Tree.history c.decide-ended.new.tree; fields = g.T.Tree.fields c.decide-ended.new.tree; tree_faults = g.T.Tree.faults c.decide-ended.new.tree; found = g.T.Tree.before_failed c.decide-ended.new.tree; read_faults = g.H.Shelf.faults c.decide-ended.new.shelf; last_read = g.H.Shelf.last_failed c.decide-ended.new.shelf } in
     let outcome = outcome_of _ before now _ _ _ _ _ _ _ (c.requires.durable tells)
     (c.decide-ended.ensures.done tells also) (c.decide-ended.ensures.refused tells also) c.decide-ended.ensures.tree_count c.decide-ended.ensures.shelf_count c.decide-ended.ensures.end c.report.ensures in
-    said_done _ outcome.0 _ _ _ _ _ _ writes (decided_done _ before now outcome.0 (well_formed_done _ _ _ formed) trees reads outcome.2.0) outcome.2.2
+    said_done _ outcome.0 _ _ _ _ _ _ writes (decided_done _ before now outcome.0 (well_formed_done _ _ _ (g.met.T.Tree.is_sound c.args.tree.now tells).tree formed) trees reads outcome.2.0) outcome.2.2
