@@ -23,11 +23,11 @@ pub record IsCarriedOut (t : FileTree) (rs : List Row) (r : Row) (source : Names
   -- with the new mode, if there is one
   pub mode : (mode : ℕ) (node : Node) → r.mode ≡ Some mode → get t source ≡ Some node → mode_of (with_new_mode t rs source node) ≡ mode
 
--- each line that has a source and doesn't remove it
+-- each line that has a source
 abbrev pub LinesAreCarriedOut : Type 0
 LinesAreCarriedOut =
-    (t : FileTree) (changes : Changes) → IsTree t → CanBeAsked (IsFile t) changes → IsWellFormed t (rows changes)
-    → (r : Row) (source : Names) → Contains (rows changes) r → r.source ≡ Some source → r.removes ≡ false → IsCarriedOut t (rows changes) r source
+    (t : FileTree) (changes : Changes) → CanBeAsked (IsFile t) changes → IsWellFormed t (rows changes)
+    → (r : Row) (source : Names) → Contains (rows changes) r → r.source ≡ Some source → IsCarriedOut t (rows changes) r source
 
 -- a line gives the entry at a path a mode: its source is that path, or shows the same file
 abbrev pub GivesMode : FileTree → Row → Names → Node → Type 0

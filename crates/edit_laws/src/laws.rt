@@ -38,7 +38,7 @@ pub fn edited_tree_is_a_tree()
     ensures { EditedIsTree }
 {}
 
-/// Each line that has a source and doesn't remove it is carried out. A new path outside of the source's directory is the source's
+/// Each line that has a source is carried out. A new path outside of the source's directory is the source's
 /// new place, whatever becomes of that directory. A new path in the same directory gives it the new name at the directory's new
 /// place, and with no new path it keeps its own name there. It has the new mode that the line names. What no line gives a mode, by
 /// its path or by the number of its file, stays as it is.
