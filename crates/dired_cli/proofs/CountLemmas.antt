@@ -1,46 +1,48 @@
 -- What counts say of rows.
-use Rattle.std.proofs.Common.{◌≡◌, ◌⊎◌, inl, inr, ℕ, ◌≤◌, ◌==◌, Bool, true, false, ◌&&◌, List, [], ◌∷◌, filter, length, refl, sym, ◌∙◌, ap, arith, Contains, Some, None}
-use Rattle.std.specs.FinMap.{FinMap, get, from_entries, len, get-empty, get-insert, empty_of_len}
+use Rattle.std.proofs.Common.{◌≡◌, ◌⊎◌, inl, inr, ℕ, ◌≤◌, ◌==◌, ◌+◌, cond, Bool, true, false, ◌&&◌, List, [], ◌∷◌, filter, length, refl, sym, ◌∙◌, ap, arith, Contains, Some, None}
+use Rattle.std.specs.List.{count_by, list_any}
+use Rattle.std.proofs.lemmas.List.Sums.{length-filter}
 use Rattle.std.proofs.lemmas.Bool.{cond-true, cond-false, cases_Bool, and_parts}
 use Rattle.std.proofs.lemmas.Bool.Decides.{Decides-eqb}
-use Rattle.std.proofs.lemmas.Option.{none-some}
-use Rattle.dired_text.specs.Paths.{Names, path_cmp}
-use Rattle.dired_text.proofs.PathLemmas.{path_cmp-total}
+use Rattle.dired_text.specs.Paths.{Names}
 use Rattle.edit_check.specs.declared.counts.Counts.{Counts}
 use Rattle.edit_check.specs.declared.row.Row.{Row}
-use Rattle.edit_check.specs.Counting.{rows_where}
+use Rattle.edit_check.specs.Counting.{different}
 use Rattle.edit_check.specs.Rows.{is_same_path}
 use Rattle.edit_check.proofs.FindLemmas.{contains_none, contains_cases}
-use Rattle.edit_check.proofs.TableLemmas.{same_itself}
 use Rattle.dired_cli.specs.Verdicts.{is_one_name}
 use Rattle.dired_cli.specs.WellFormed.{IsOneNameAtMost}
 
 -- where no row is counted none passes
-pub first_fails : (test : Row → Bool) (r : Row) (rs : List Row) → rows_where test (r ∷ rs) ≡ 0 → test r ≡ false
+pub first_fails : (test : Row → Bool) (r : Row) (rs : List Row) → count_by test (r ∷ rs) ≡ 0 → test r ≡ false
 first_fails test r rs e = elim (cases_Bool (test r)) [
-  | inl is ↦ absurd (let some : length (r ∷ filter test rs) ≡ 0 = sym (ap length (cond-true (test r) (r ∷ filter test rs) (filter test rs) is)) ∙ e in omega arith)
+  | inl is ↦ absurd (let some : length (r ∷ filter test rs) ≡ 0 = sym (ap length (cond-true (test r) (r ∷ filter test rs) (filter test rs) is)) ∙ length-filter test (r ∷ rs) ∙ e in omega arith)
   | inr is ↦ is
 ]
 
-pub rest_fails : (test : Row → Bool) (r : Row) (rs : List Row) → rows_where test (r ∷ rs) ≡ 0 → rows_where test rs ≡ 0
-rest_fails test r rs e = sym (ap length (cond-false (test r) (r ∷ filter test rs) (filter test rs) (first_fails test r rs e))) ∙ e
+pub rest_fails : (test : Row → Bool) (r : Row) (rs : List Row) → count_by test (r ∷ rs) ≡ 0 → count_by test rs ≡ 0
+rest_fails test r rs e = sym (length-filter test rs) ∙ sym (ap length (cond-false (test r) (r ∷ filter test rs) (filter test rs) (first_fails test r rs e))) ∙ length-filter test (r ∷ rs) ∙ e
 
-pub one_counted : (test : Row → Bool) (r : Row) → test r ≡ true → rows_where test (r ∷ []) ≡ 1
-one_counted test r is = ap length (cond-true (test r) (r ∷ []) [] is)
+pub one_counted : (test : Row → Bool) (r : Row) → test r ≡ true → count_by test (r ∷ []) ≡ 1
+one_counted test r is = sym (length-filter test (r ∷ [])) ∙ ap length (cond-true (test r) (r ∷ []) [] is)
 
-pub two_counted : (test : Row → Bool) (r o : Row) (rs : List Row) → test r ≡ true → test o ≡ true → rows_where test (r ∷ o ∷ rs) ≤ 1 → ⊥
+pub two_counted : (test : Row → Bool) (r o : Row) (rs : List Row) → test r ≡ true → test o ≡ true → count_by test (r ∷ o ∷ rs) ≤ 1 → ⊥
 two_counted test r o rs one two few =
     let both : length (filter test (r ∷ o ∷ rs)) ≡ length (r ∷ o ∷ filter test rs) =
     ap length (cond-true (test r) (r ∷ filter test (o ∷ rs)) (filter test (o ∷ rs)) one) ∙ ap (λ (l : List Row). length (r ∷ l)) (cond-true (test o) (o ∷ filter test rs) (filter test rs) two) in
+    let counted : length (filter test (r ∷ o ∷ rs)) ≡ count_by test (r ∷ o ∷ rs) = length-filter test (r ∷ o ∷ rs) in
     omega arith
 
--- a map of no entries is made of none
-pub none_made : (es : List (Names × ℕ)) → len (from_entries {R = path_cmp} es) ≡ 0 → es ≡ []
+-- where no path is counted there is none
+pub none_made : (ps : List Names) → different ps ≡ 0 → ps ≡ []
 none_made [] e = refl
-none_made (x ∷ es) e =
-    let none : get (from_entries {R = path_cmp} (x ∷ es)) x.0 ≡ None = ap (λ (m : FinMap path_cmp ℕ). get m x.0) (empty_of_len (from_entries {R = path_cmp} (x ∷ es)) e) ∙ get-empty path_cmp x.0 in
-    let some : get (from_entries {R = path_cmp} (x ∷ es)) x.0 ≡ Some x.1 = get-insert path_cmp-total (from_entries {R = path_cmp} es) x.0 x.1 x.0 ∙ cond-true (is_same_path x.0 x.0) (Some x.1) (get (from_entries {R = path_cmp} es) x.0) (same_itself x.0) in
-    absurd (none-some x.1 (sym none ∙ some))
+none_made (p ∷ ps) e = go (none_made ps) (cases_Bool (list_any (is_same_path p) ps))
+  where
+    go : (different ps ≡ 0 → ps ≡ []) → (list_any (is_same_path p) ps ≡ true) ⊎ (list_any (is_same_path p) ps ≡ false) → p ∷ ps ≡ []
+    go later (inl is) =
+        let counted : 0 + different ps ≡ 0 = sym (ap (λ (b : Bool). cond b 0 1 + different ps) is) ∙ e in
+        absurd (let wrong : true ≡ false = sym is ∙ ap (list_any (is_same_path p)) (later (omega (arith, counted))) in cc)
+    go later (inr is) = absurd (let counted : 1 + different ps ≡ 0 = sym (ap (λ (b : Bool). cond b 0 1 + different ps) is) ∙ e in omega arith)
 
 -- what a filter leaves nothing of has nothing that passes
 pub none_kept : (test : Names → Bool) (ps : List Names) (p : Names) → filter test ps ≡ [] → Contains ps p → test p ≡ false

@@ -1,6 +1,7 @@
 mod CarryLemmas
 mod CompleteLemmas
 mod CountLemmas
+mod EditedLemmas
 mod OneLemmas
 mod RenameLemmas
 mod ReportLemmas

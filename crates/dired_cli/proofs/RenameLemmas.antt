@@ -1,7 +1,7 @@
 -- When the only edit can be carried out.
 use Rattle.std.proofs.Common.{◌≡◌, ◌≢◌, inl, inr, ℕ, ◌+◌, All, true, false, ◌&&◌, not, List, [], ◌∷◌, ◌++◌, map, filter, length, refl, sym, ◌∙◌, ap, subst, arith, length-append, Option, Some, None, is_some, Contains}
 use Rattle.std.specs.FinMap.{get}
-use Rattle.std.specs.List.{flat_map}
+use Rattle.std.specs.List.{count_by, flat_map}
 use Rattle.std.proofs.lemmas.Bool.{cond-true, cond-false, cases_Bool}
 use Rattle.std.proofs.lemmas.List.{append-nil}
 use Rattle.std.proofs.lemmas.List.Elements.{All-head}
@@ -13,7 +13,7 @@ use Rattle.tree_core.specs.declared.edit.Edit.{Edit}
 use Rattle.tree_core.specs.FileTree.{FileTree, IsTree, IsDir, IsAbsent, Stands, CanRename}
 use Rattle.tree_core.proofs.TreeLemmas.{none_of}
 use Rattle.edit_check.specs.declared.row.Row.{Row}
-use Rattle.edit_check.specs.Counting.{counts_of, rows_where}
+use Rattle.edit_check.specs.Counting.{counts_of}
 use Rattle.edit_check.specs.Place.{IsAbove, fronts}
 use Rattle.edit_check.specs.Refusals.{missing_above, victim_of, victim_at}
 use Rattle.edit_check.specs.Rows.{rows, edit_row, is_same_path, is_source, is_far, is_far_of, written, written_of}
@@ -27,7 +27,7 @@ use Rattle.dired_cli.specs.Verdicts.{CanAct, is_one_name}
 use Rattle.dired_cli.proofs.CountLemmas.{first_fails, none_made, none_kept, replaces_none, makes_none}
 
 -- a path that isn't the root, as its parent and its name
-last_name : (p : Names) → p ≢ [] → (front : Names) × (last : List ℕ) × (p ≡ front ++ last ∷ [])
+pub last_name : (p : Names) → p ≢ [] → (front : Names) × (last : List ℕ) × (p ≡ front ++ last ∷ [])
 last_name [] some = absurd (some refl)
 last_name (x ∷ []) some = ([], x, refl)
 last_name (x ∷ y ∷ p) some =
@@ -55,10 +55,6 @@ same_length from to f n same =
     let long_b : length to ≡ length b.0 + 1 = ap length b.2 ∙ length-append b.0 (b.1 ∷ []) in
     let front : length a.0 ≡ length b.0 = ap length fronts in
     omega arith
-
-map_nil : {X Y : Type 0} (f : X → Y) (xs : List X) → map f xs ≡ [] → xs ≡ []
-map_nil f [] e = refl
-map_nil f (x ∷ xs) e = cc
 
 -- one edit with this new path
 module _ (t : FileTree) (tree : IsTree t) (e : Edit) (to : Names) (is_to : e.to ≡ Some to) (asked : IsEdit e) (no_root : IsNoRoot (edit_row e)) (fine : IsWellFormed t (edit_row e ∷ [])) where
@@ -92,7 +88,7 @@ module _ (t : FileTree) (tree : IsTree t) (e : Edit) (to : Names) (is_to : e.to 
     | inr other ↦ ap is_some (cond-false (is_same_path to e.source) (Some r) None other)
   ]
 
-  absent : rows_where (λ (o : Row). is_some (victim_of (sight_of t) rs o)) rs ≡ 0 → IsAbsent t to
+  absent : count_by (λ (o : Row). is_some (victim_of (sight_of t) rs o)) rs ≡ 0 → IsAbsent t to
   absent none = none_of (get t to) (λ stands.
       let seen : is_some ((sight_of t).at to) ≡ true = (stands_decides t to).1 stands in
       let both : (is_some ((sight_of t).at to) && not (is_source rs to)) ≡ true = ap (λ b. b && not (is_source rs to)) seen ∙ ap (λ b. not b) no_source in
@@ -148,7 +144,7 @@ module _ (t : FileTree) (tree : IsTree t) (e : Edit) (to : Names) (is_to : e.to 
     stands = source_stands;
     not_root = some_source;
     absent = absent (replaces_none (counts_of (sight_of t) rs) one);
-    parent_is_dir = parent_is_dir (map_nil (λ (p : Names). (p, 0)) (flat_map (missing_above (sight_of t)) rs) (none_made _ (makes_none (counts_of (sight_of t) rs) one)));
+    parent_is_dir = parent_is_dir (none_made _ (makes_none (counts_of (sight_of t) rs) one));
     apart = apart (rest_below e.source to) refl;
   }
 

@@ -1,11 +1,11 @@
-mod ListLemmas
-mod PlaceLemmas
-mod PlacedLemmas
-mod PlacedIsTree
-mod RowLemmas
-mod AskedLemmas
-mod AddedLemmas
-mod EditedLemmas
-mod LineLemmas
-mod VictimLemmas
-mod FrontLemmas
+pub mod ListLemmas
+pub mod PlaceLemmas
+pub mod PlacedLemmas
+pub mod PlacedIsTree
+pub mod RowLemmas
+pub mod AskedLemmas
+pub mod AddedLemmas
+pub mod EditedLemmas
+pub mod LineLemmas
+pub mod VictimLemmas
+pub mod FrontLemmas

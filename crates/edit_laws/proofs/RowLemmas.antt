@@ -44,7 +44,7 @@ pub front_last : (w : Names) → w ≢ [] → w ≡ parent w ++ last_name w ∷ 
 front_last w = by_last (λ w. w ≢ [] → w ≡ parent w ++ last_name w ∷ []) (λ no. absurd (no refl)) (λ p n before no.
     ap (λ (l : Names). l ++ n ∷ []) (sym (parent-push p n)) ∙ ap (λ (m : List ℕ). parent (p ++ n ∷ []) ++ m ∷ []) (sym (last_name-push p n))) w
 
-turn_to-written : (p : Names) (n : List ℕ) (w : Names) → w ≢ [] → turned (turn_to (p ++ n ∷ []) (Some w)) p n ≡ w
+pub turn_to-written : (p : Names) (n : List ℕ) (w : Names) → w ≢ [] → turned (turn_to (p ++ n ∷ []) (Some w)) p n ≡ w
 turn_to-written p n w not_root = elim (cases_Bool (is_same_path (parent (p ++ n ∷ [])) (parent w))) [
   | inl same ↦ ap (λ (a : Turn). turned a p n) (cond-true _ (Named (last_name w)) (Sent w) same)
       ∙ ap (λ (l : Names). l ++ last_name w ∷ []) (sym (parent-push p n) ∙ (path_decides (parent (p ++ n ∷ [])) (parent w)).0 same) ∙ sym (front_last w not_root)
