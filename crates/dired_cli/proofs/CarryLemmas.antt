@@ -1,23 +1,29 @@
 -- From edits that were checked to what a run does.
-use Rattle.std.proofs.Common.{◌≡◌, ◌≤◌, ◌<◌, ℕ, List, [], ◌∷◌, length, get_or, arith, sym, ◌∙◌, ap, subst, Option, Result, IfOk, IfErr}
+use Rattle.std.proofs.Common.{◌≡◌, ◌≢◌, ◌≤◌, ◌<◌, ℕ, true, false, List, [], ◌∷◌, length, get_or, arith, refl, sym, ◌∙◌, ap, subst, Option, Some, None, is_some, Result, IfOk, IfErr}
+use Rattle.std.specs.FinMap.{get}
 use Rattle.dired_text.specs.Paths.{Names}
 use Rattle.tree_core.specs.declared.changes.Changes.TheVariants.{Edits}
+use Rattle.tree_core.specs.declared.changes.Confirmed.{Confirmed}
 use Rattle.tree_core.specs.declared.edit.Edit.{Edit}
 use Rattle.tree_core.specs.declared.meta.Meta.{Meta}
-use Rattle.tree_core.specs.FileTree.{FileTree, IsTree}
+use Rattle.tree_core.specs.FileTree.{FileTree, IsTree, Stands, CanRename, renamed}
+use Rattle.tree_core.proofs.TreeLemmas.{dir_stands, absent_not}
 use Rattle.tree_core.specs.History.{History, current_tree, LeavesOnly}
 use Rattle.edit_check.specs.declared.counts.Counts.{Counts}
 use Rattle.edit_check.specs.declared.fault.CheckFault.{CheckFault}
 use Rattle.edit_check.specs.Counting.{counts_of}
-use Rattle.edit_check.specs.Rows.{rows}
+use Rattle.edit_check.specs.declared.row.Row.{Row}
+use Rattle.edit_check.specs.Rows.{rows, edit_row}
 use Rattle.edit_check.specs.Sight.{sight_of}
 use Rattle.edit_check.specs.WellFormed.{AreAsked, CanBeMade}
 use Rattle.edit_check.proofs.WellFormedLemmas.{taken_alone}
 use Rattle.dired_cli.specs.declared.requests.Request.{Request}
 use Rattle.dired_cli.specs.declared.status.Status.{Status}
 use Rattle.dired_cli.specs.Statuses.{ByCause}
-use Rattle.dired_cli.specs.Verdicts.{Verdict, Refuses, FaultLeaves, IsDone, IsOldOrEdited, CanAct, edited, unless, on_edits, on_tree}
-use Rattle.dired_cli.proofs.RenameLemmas.{can_act}
+use Rattle.dired_cli.specs.Verdicts.{Verdict, Makes, Refuses, is_one_name, FaultLeaves, IsDone, IsOldOrEdited, CanAct, edited, unless, on_edits, on_tree}
+use Rattle.dired_cli.proofs.CountLemmas.{first_fails, retargets_none}
+use Rattle.dired_cli.proofs.EditedLemmas.{renamed_is_edited}
+use Rattle.dired_cli.proofs.RenameLemmas.{only_renamed}
 
 -- where all edits can be made nothing is refused but what isn't built
 pub verdict_is : (request : Request) (t : FileTree) (counts : Counts) (edits : List Edit) (flagged : List Names) → IsTree t → CanBeMade t request.confirmed (rows (Edits request.edits))
@@ -28,6 +34,24 @@ verdict_is request t counts edits flagged tree can counts_are edits_are flagged_
     ∙ ap (λ (es : List Edit). on_edits (counts_of (sight_of t) (rows (Edits request.edits))) es flagged) edits_are
     ∙ ap (λ (ps : List Names). on_edits (counts_of (sight_of t) (rows (Edits request.edits))) request.edits ps) flagged_are
     ∙ ap (λ (o : Option CheckFault). unless o whole) (sym ((taken_alone t request.confirmed (rows (Edits request.edits)) tree).1 can))
+
+none_if : {A : Type 0} (o : Option A) → is_some o ≡ false → o ≡ None
+none_if None e = refl
+none_if (Some a) e = cc
+
+-- The only edit can be renamed, and that makes the edited tree.
+can_act : (t : FileTree) (edits : List Edit) (confirmed : Confirmed) → IsTree t → AreAsked (Edits edits) → CanBeMade t confirmed (rows (Edits edits)) → CanAct t (counts_of (sight_of t) (rows (Edits edits))) edits
+can_act t edits confirmed tree asked can e to is is_to one =
+    let r : Row = edit_row e in
+    let renames : CanRename t e.source to = only_renamed t edits confirmed tree asked can e to is is_to one in
+    let none = retargets_none (counts_of (sight_of t) (r ∷ [])) (subst (λ (l : List Edit). is_one_name (counts_of (sight_of t) (rows (Edits l))) ≡ true) is one) in
+    let no_target : is_some e.target ≡ false = first_fails (λ (o : Row). o.retargets) r [] none.0 in
+    let no_mode : is_some e.mode ≡ false = first_fails (λ (o : Row). is_some o.mode) r [] none.1 in
+    let some_to : to ≢ [] = λ root. absent_not (get t to) renames.absent (subst (Stands t) (sym root) (dir_stands (get t []) tree.root)) in
+    (
+      renames,
+      subst (λ (l : List Edit). renamed t e.source to ≡ edited (Makes l []) t) (sym is) (renamed_is_edited t tree e to is_to no_target (none_if e.mode no_mode) some_to renames),
+    )
 
 -- The only edit can be carried out, also where looks have been taken since.
 pub can_behind : (request : Request) (old mid : History) (counts : Counts) (edits : List Edit) → mid ≡ old → IsTree (current_tree old) → AreAsked (Edits request.edits) → CanBeMade (current_tree old) request.confirmed (rows (Edits request.edits))

@@ -24,7 +24,7 @@ use Rattle.dired_cli.specs.declared.status.Status.TheVariants.{Done, Usage, Memo
 use Rattle.dired_cli.specs.Inputs.{Files, input_of, bytes_or_refusal, max_buffer_bytes}
 use Rattle.dired_cli.specs.Requests.{of_inputs, of_buffer, of_edits, of_asks}
 use Rattle.dired_cli.specs.Reports.{Said}
-use Rattle.dired_cli.specs.Verdicts.{Verdict, Renames, Refuses, status_of, is_one_name, on_edit, on_edits, unless, on_dirs}
+use Rattle.dired_cli.specs.Verdicts.{Verdict, Makes, Refuses, status_of, is_one_name, on_edit, on_edits, unless, on_dirs}
 use Rattle.dired_cli.specs.Runs.{Outside, Decides, verdict, of_request, of_command}
 use Rattle.dired_cli.specs.WellFormed.{IsOneNameAtMost, AreAllowed, CanCommit, CanList, IsWellFormed}
 use Rattle.dired_cli.proofs.CountLemmas.{first_fails, rest_fails, one_counted, two_counted, is_one}
@@ -59,7 +59,7 @@ few_done sight (e ∷ []) flagged asked most =
     let path = has_path e e.to refl (All-head IsEdit e [] asked) no_target no_mode in
     let one = is_one (counts_of sight (r ∷ [])) (one_counted Moves r (ap is_some path.1)) most in
     ap (λ to. status_of (on_edit (counts_of sight (r ∷ [])) e to flagged)) path.1
-    ∙ ap status_of (cond-true (is_one_name (counts_of sight (r ∷ []))) (Renames e.source path.0 flagged) (Refuses (NotBuilt e.line)) one)
+    ∙ ap status_of (cond-true (is_one_name (counts_of sight (r ∷ []))) (Makes (e ∷ []) flagged) (Refuses (NotBuilt e.line)) one)
 few_done sight (e ∷ second ∷ later) flagged asked most =
     let r : Row = edit_row e in
     let o : Row = edit_row second in

@@ -73,6 +73,16 @@ replaces_none c is =
     let d = and_parts _ (c.made == 0) b.0 in
     zero c.replaced (and_parts _ (c.replaced == 0) d.0).1
 
+-- and what is retargeted and gets a new mode
+pub retargets_none : (c : Counts) → is_one_name c ≡ true → (c.retargeted ≡ 0) × (c.modes ≡ 0)
+retargets_none c is =
+    let a = and_parts _ (c.created == 0) is in
+    let b = and_parts _ (c.removed == 0) a.0 in
+    let d = and_parts _ (c.made == 0) b.0 in
+    let f = and_parts _ (c.replaced == 0) d.0 in
+    let h = and_parts _ (c.modes == 0) f.0 in
+    (zero c.retargeted (and_parts _ (c.retargeted == 0) h.0).1, zero c.modes h.1)
+
 all_zero : (a b c d e f g : ℕ) → a ≡ 1 → b ≡ 0 → c ≡ 0 → d ≡ 0 → e ≡ 0 → f ≡ 0 → g ≡ 0 → (a == 1 && b == 0 && c == 0 && d == 0 && e == 0 && f == 0 && g == 0) ≡ true
 all_zero a b c d e f g ea eb ec ed ee ef eg = simp (ea, eb, ec, ed, ee, ef, eg)
 

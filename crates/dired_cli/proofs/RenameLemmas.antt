@@ -23,7 +23,7 @@ use Rattle.edit_check.proofs.AboveLemmas.{fronts_above}
 use Rattle.edit_check.proofs.FindLemmas.{contains_head}
 use Rattle.edit_check.proofs.RefusalLemmas.{stands_decides}
 use Rattle.edit_check.proofs.TableLemmas.{same_path}
-use Rattle.dired_cli.specs.Verdicts.{CanAct, is_one_name}
+use Rattle.dired_cli.specs.Verdicts.{is_one_name}
 use Rattle.dired_cli.proofs.CountLemmas.{first_fails, none_made, none_kept, replaces_none, makes_none}
 
 -- a path that isn't the root, as its parent and its name
@@ -148,9 +148,10 @@ module _ (t : FileTree) (tree : IsTree t) (e : Edit) (to : Names) (is_to : e.to 
     apart = apart (rest_below e.source to) refl;
   }
 
--- The only edit can be carried out where all edits can be made and one new path is all that changes.
-pub can_act : (t : FileTree) (edits : List Edit) (confirmed : Confirmed) → IsTree t → AreAsked (Edits edits) → CanBeMade t confirmed (rows (Edits edits)) → CanAct t (counts_of (sight_of t) (rows (Edits edits))) edits
-can_act t edits confirmed tree asked can e to is is_to one =
+-- The only edit can be renamed where all edits can be made and one new path is all that changes.
+pub only_renamed : (t : FileTree) (edits : List Edit) (confirmed : Confirmed) → IsTree t → AreAsked (Edits edits) → CanBeMade t confirmed (rows (Edits edits))
+    → (e : Edit) (to : Names) → edits ≡ e ∷ [] → e.to ≡ Some to → is_one_name (counts_of (sight_of t) (rows (Edits edits))) ≡ true → CanRename t e.source to
+only_renamed t edits confirmed tree asked can e to is is_to one =
     let lawful : IsEdit e = All-head IsEdit e [] (subst (λ (l : List Edit). All IsEdit l) is asked.lawful) in
     let no_root : IsNoRoot (edit_row e) = All-head IsNoRoot (edit_row e) [] (subst (λ (l : List Edit). All IsNoRoot (rows (Edits l))) is asked.not_root) in
     let fine : IsWellFormed t (edit_row e ∷ []) = subst (λ (l : List Edit). IsWellFormed t (rows (Edits l))) is can.well_formed in

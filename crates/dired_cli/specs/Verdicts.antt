@@ -1,4 +1,4 @@
--- What is to become of the tree: a refusal, nothing, or one new path; or a listing of it.
+-- What is to become of the tree: a refusal, nothing, or edits; or a listing of it.
 use Rattle.std.specs.Prelude.{◌≡◌, ◌⊎◌, ℕ, ◌==◌, Bool, true, ◌&&◌, List, [], ◌∷◌, ◌++◌, codes, decimal, flat_map, length, Option, Some, None, if◌then◌else◌}
 use Rattle.dired_text.specs.Paths.{Names, joined}
 use Rattle.tree_core.specs.declared.changes.Changes.TheVariants.{Edits}
@@ -14,6 +14,7 @@ use Rattle.edit_check.specs.declared.counts.Counts.{Counts}
 use Rattle.edit_check.specs.declared.fault.CheckFault.{CheckFault}
 use Rattle.edit_check.specs.declared.row.Row.{Row}
 use Rattle.edit_check.specs.Counting.{counts_of}
+use Rattle.edit_check.specs.Edited.{edited as edited_by}
 use Rattle.edit_check.specs.Refusals.{refusal}
 use Rattle.edit_check.specs.Rows.{rows}
 use Rattle.edit_check.specs.Sight.{Sight, sight_of}
@@ -23,24 +24,25 @@ use Rattle.dired_cli.specs.declared.status.Status.TheVariants.{Done, Missing, No
 use Rattle.dired_cli.specs.Faults.{status_of_fault}
 use Rattle.dired_cli.specs.Statuses.{path_text}
 
--- a refusal; or the tree stays, or one path is renamed, and these names were emptied; or the root and these directories
+-- a refusal; or the tree stays, or these edits are made, and these names were emptied; or the root and these directories
 -- are listed
 pub data Verdict : Type 0 where
   Refuses : Status → Verdict
   Keeps : List Names → Verdict
-  Renames : Names → Names → List Names → Verdict
+  Makes : List Edit → List Names → Verdict
   Lists : Switches → List Names → Verdict
 
+-- the tree that is wanted
 abbrev pub edited : Verdict → FileTree → FileTree
 edited (Refuses status) t = t
 edited (Keeps flagged) t = t
-edited (Renames from to flagged) t = renamed t from to
+edited (Makes edits flagged) t = edited_by t (rows (Edits edits)) []
 edited (Lists switches dirs) t = t
 
 abbrev pub status_of : Verdict → Status
 status_of (Refuses status) = status
 status_of (Keeps flagged) = Done
-status_of (Renames from to flagged) = Done
+status_of (Makes edits flagged) = Done
 status_of (Lists switches dirs) = Done
 
 -- the line of an emptied name
@@ -55,11 +57,11 @@ counts_text names flagged = codes "renamed " ++ decimal names ++ codes ", retarg
 abbrev pub summary_text : ℕ → List Names → List ℕ
 summary_text names flagged = flat_map flagged_text flagged ++ counts_text names (length flagged)
 
--- what a command writes that was done, on a tree with these fields
+-- what a command writes that was done, on a tree with these fields; as yet each edit that is made has a new path
 abbrev pub IsOutput : Verdict → FileTree → (Names → Meta) → List ℕ → Type 0
 IsOutput (Refuses status) t fields text = ⊥
 IsOutput (Keeps flagged) t fields text = text ≡ summary_text 0 flagged
-IsOutput (Renames from to flagged) t fields text = text ≡ summary_text 1 flagged
+IsOutput (Makes edits flagged) t fields text = text ≡ summary_text (length edits) flagged
 IsOutput (Lists switches dirs) t fields text = IsListing switches t fields dirs text
 
 -- whether one new path is all that changes: nothing is replaced for it, and no directory made
@@ -68,7 +70,7 @@ is_one_name c = c.renamed == 1 && c.retargeted == 0 && c.modes == 0 && c.replace
 
 abbrev pub on_edit : Counts → Edit → Option Names → List Names → Verdict
 on_edit counts edit None flagged = Refuses (NotBuilt edit.line)
-on_edit counts edit (Some to) flagged = if is_one_name counts then Renames edit.source to flagged else Refuses (NotBuilt edit.line)
+on_edit counts edit (Some to) flagged = if is_one_name counts then Makes (edit ∷ []) flagged else Refuses (NotBuilt edit.line)
 
 -- what becomes of edits that can be made, by how much they change: one new path is carried out, as yet
 abbrev pub on_edits : Counts → List Edit → List Names → Verdict
@@ -103,9 +105,10 @@ FaultLeaves first old new found now =
     ((found ≡ old) × ((now ≡ old) ⊎ ((first ≡ call.Rename) × (now ≡ new))))
     ⊎ ((first ≡ call.Sync) × (found ≡ new) × (now ≡ new))
 
--- what the only edit, where it is carried out, needs of the tree
+-- What the only edit, where it is carried out, needs of the tree: it can be renamed, and that makes the edited tree.
 abbrev pub CanAct : FileTree → Counts → List Edit → Type 0
-CanAct t counts edits = (edit : Edit) (to : Names) → edits ≡ edit ∷ [] → edit.to ≡ Some to → is_one_name counts ≡ true → CanRename t edit.source to
+CanAct t counts edits = (edit : Edit) (to : Names) → edits ≡ edit ∷ [] → edit.to ≡ Some to → is_one_name counts ≡ true
+    → CanRename t edit.source to × (renamed t edit.source to ≡ edited (Makes edits []) t)
 
 -- Done: the verdict refuses nothing, exactly the edited tree reads, nothing is pending, and the text is the output.
 abbrev pub IsDone : Verdict → FileTree → (Names → Meta) → History → List ℕ → Type 0

@@ -7,7 +7,7 @@ ghost use Rattle.tree_core.specs.History.{current_tree, IsDurable, LeavesOnly};
 ghost use Rattle.tree_core.specs.Faults.{with_fault};
 ghost use Rattle.edit_check.specs.WellFormed.{AreAsked};
 ghost use Rattle.dired_cli.specs.Statuses.{ByCause, IsRefusal};
-ghost use Rattle.dired_cli.specs.Verdicts.{IsOldOrEdited, FaultLeaves, is_one_name as is_one_name_of, on_tree, on_edits, on_edit, edited, flagged_text, counts_text, summary_text, Keeps, Renames, Refuses, CanAct, IsDone};
+ghost use Rattle.dired_cli.specs.Verdicts.{IsOldOrEdited, FaultLeaves, is_one_name as is_one_name_of, on_tree, on_edits, on_edit, edited, flagged_text, counts_text, summary_text, Keeps, Makes, Refuses, CanAct, IsDone};
 
 use crate::status::path_text;
 use crate::{Request, Status};
@@ -159,7 +159,7 @@ fn act_on_one<T: Tree>(
     ensures end { IfErr result IsRefusal }
 {
     match &edit.to {
-        Some(to) if is_one_name(counts) => rename(alloc, tree, &edit.source, to, flagged),
+        Some(to) if is_one_name(counts) => rename(alloc, tree, edit, to, flagged),
         _ => Err(Status::NotBuilt { line: edit.line }),
     }
 }
@@ -207,29 +207,32 @@ fn sync_alone<T: Tree>(alloc: Global, tree: &mut T, flagged: &[Path]) -> Result<
     }
 }
 
-// Where one path is to be renamed.
+// Where a new path is all that is to change.
 fn rename<T: Tree>(
     alloc: Global,
     tree: &mut T,
-    source: &Path,
+    edit: &Edit,
     to: &Path,
     flagged: &[Path],
 ) -> Result<Bytes, Status>
-    requires can { T.Tells → CanRename (current_tree (T.history tree.old)) source.now to.now }
+    requires can { T.Tells → CanRename (current_tree (T.history tree.old)) edit.now.source to.now }
+    requires edited { T.Tells →
+        let old = current_tree (T.history tree.old) in
+        renamed old edit.now.source to.now ≡ edited (Makes (edit.now ∷ []) flagged.now) old }
     requires durable { T.Tells → IsDurable (T.history tree.old) }
 
-    ensures done { T.Tells →
-        let old = current_tree (T.history tree.old) in
-        IfOk result (λ text. IsDone (Renames source.now to.now flagged.now) old (T.fields tree.old) (T.history tree.new) text) }
+    ensures done { T.Tells → IfOk result (λ text. IsDone (Makes (edit.now ∷ []) flagged.now) (current_tree (T.history tree.old)) (T.fields tree.old) (T.history tree.new) text) }
     ensures refused { T.Tells →
         let old = current_tree (T.history tree.old) in
+        let new = edited (Makes (edit.now ∷ []) flagged.now) old in
         IfErr result (λ status. ByCause status
         (T.history tree.new ≡ T.history tree.old)
-        (λ first. FaultLeaves first old (renamed old source.now to.now) (T.before_failed tree.new) (current_tree (T.history tree.new)))
+        (λ first. FaultLeaves first old new (T.before_failed tree.new) (current_tree (T.history tree.new)))
         (λ _. ⊥) ⊥) }
     ensures any_moment { T.Tells →
         let old = current_tree (T.history tree.old) in
-        LeavesOnly (T.history tree.old) (T.history tree.new) (IsOldOrEdited old (renamed old source.now to.now)) }
+        let new = edited (Makes (edit.now ∷ []) flagged.now) old in
+        LeavesOnly (T.history tree.old) (T.history tree.new) (IsOldOrEdited old new) }
     ensures cause { let same = T.faults tree.new ≡ T.faults tree.old in
         MatchResult result (λ _. same) (λ status. ByCause status
         same (λ first. T.faults tree.new ≡ with_fault first (T.faults tree.old)) (λ _. ⊥) ⊥) }
@@ -238,7 +241,7 @@ fn rename<T: Tree>(
     let Ok(text) = summary(alloc, 1, flagged) else {
         return Err(Status::Memory);
     };
-    match commit_one(tree, source, to) {
+    match commit_one(tree, &edit.source, to) {
         Ok(()) => Ok(text),
         Err(first) => Err(Status::TreeFault { first }),
     }

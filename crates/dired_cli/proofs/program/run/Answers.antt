@@ -1,4 +1,7 @@
-use Rattle.dired_cli.specs.Runs.{Outside}
+use Rattle.std.proofs.Common.{map, string_bytes}
+use Rattle.tree_core.specs.History.{current_tree}
+use Rattle.dired_cli.specs.Runs.{Outside, verdict}
+use Rattle.dired_cli.specs.Verdicts.{Verdict}
 use Rattle.dired_cli.proofs.CompleteLemmas.{well_formed_done, decided_done, said_done}
 use Rattle.dired_cli.proofs.RunLemmas.{outcome_of, ended_by_read, read_counted, read_named}
 use Rattle.dired_cli.proofs.program.run.Goals as goal
@@ -19,6 +22,7 @@ pub returns-clause-complete : goal.returns-clause-complete
 returns-clause-complete g c tells also formed trees reads writes =
     let before : Outside = record { history = g.T.Tree.history c.args.tree.now; fields = g.T.Tree.fields c.args.tree.now; tree_faults = g.T.Tree.faults c.args.tree.now; found = g.T.Tree.before_failed c.args.tree.now; read_faults = g.H.Shelf.faults c.args.shelf.now; last_read = g.H.Shelf.last_failed c.args.shelf.now } in
     let now : Outside = record { history = g.T.Tree.history c.decide-ended.new.tree; fields = g.T.Tree.fields c.decide-ended.new.tree; tree_faults = g.T.Tree.faults c.decide-ended.new.tree; found = g.T.Tree.before_failed c.decide-ended.new.tree; read_faults = g.H.Shelf.faults c.decide-ended.new.shelf; last_read = g.H.Shelf.last_failed c.decide-ended.new.shelf } in
-    let outcome = outcome_of _ before now _ _ _ _ _ _ _ (c.requires.durable tells)
+    let v : Verdict = verdict (map string_bytes c.args.words.now) (g.H.Shelf.files c.args.shelf.now) (current_tree (g.T.Tree.history c.args.tree.now)) in
+    let outcome = outcome_of v before now _ _ _ _ _ _ _ (c.requires.durable tells)
     (c.decide-ended.ensures.done tells also) (c.decide-ended.ensures.refused tells also) c.decide-ended.ensures.tree_count c.decide-ended.ensures.shelf_count c.decide-ended.ensures.end c.report.ensures in
-    said_done _ outcome.0 _ _ _ _ _ _ writes (decided_done _ before now outcome.0 (well_formed_done _ _ _ (g.met.T.Tree.is_sound c.args.tree.now tells).tree formed) trees reads outcome.2.0) outcome.2.2
+    said_done _ outcome.0 _ _ _ _ _ _ writes (decided_done v before now outcome.0 (well_formed_done _ _ _ (g.met.T.Tree.is_sound c.args.tree.now tells).tree formed) trees reads outcome.2.0) outcome.2.2
