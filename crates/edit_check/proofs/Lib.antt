@@ -15,3 +15,4 @@ pub mod LookingLemmas
 pub mod CheckLemmas
 pub mod BytesLemmas
 pub mod CountLemmas
+pub mod AskingLemmas

@@ -13,3 +13,4 @@ pub mod Checks
 pub mod Facts
 pub mod StandFor
 pub mod Laws
+pub mod Asking

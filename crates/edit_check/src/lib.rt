@@ -1,6 +1,7 @@
 //! Whether changes of a tree are well formed, and where they take each path.
 #![tactic(auto)]
 
+mod asking;
 mod bytes;
 mod checked;
 mod checking;
@@ -19,8 +20,11 @@ mod row;
 mod rules;
 mod sight;
 mod table;
+#[cfg(test)]
+mod tests;
 mod victims;
 
+pub use asking::can_be_asked;
 pub use checked::Checked;
 pub use checking::check;
 pub use counts::Counts;
