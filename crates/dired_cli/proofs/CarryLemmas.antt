@@ -47,8 +47,7 @@ can_act t edits confirmed tree asked can e to is is_to one =
     let none = retargets_none (counts_of (sight_of t) (r ∷ [])) (subst (λ (l : List Edit). is_one_name (counts_of (sight_of t) (rows (Edits l))) ≡ true) is one) in
     let no_target : is_some e.target ≡ false = first_fails (λ (o : Row). o.retargets) r [] none.0 in
     let no_mode : is_some e.mode ≡ false = first_fails (λ (o : Row). is_some o.mode) r [] none.1 in
-    let some_to : to ≢ [] = λ root. absent_not (get t to) renames.absent (subst (Stands t) (sym root) (dir_stands (get t []) tree.root)) in
-    (
+    let some_to : to ≢ [] = λ root. absent_not (get t to) renames.absent (subst (Stands t) (sym root) (dir_stands (get t []) tree.root)) in (
       renames,
       subst (λ (l : List Edit). renamed t e.source to ≡ edited (Makes l []) t) (sym is) (renamed_is_edited t tree e to is_to no_target (none_if e.mode no_mode) some_to renames),
     )

@@ -1,5 +1,5 @@
 -- Where one new path is all that changes, the edited tree is the renamed one.
-use Rattle.std.proofs.Common.{◌≡◌, ◌≢◌, ◌⊎◌, inl, inr, ℕ, ◌+◌, Bool, true, false, cond, ◌&&◌, ◌||◌, not, List, [], ◌∷◌, ◌++◌, map, filter, length, refl, sym, ◌∙◌, ap, subst, arith, append_assoc, length-append, Option, Some, None, is_some, IsTrue, Contains}
+use Rattle.std.proofs.Common.{◌≡◌, ◌≢◌, inl, inr, ℕ, ◌+◌, Bool, true, false, cond, ◌&&◌, ◌||◌, not, List, [], ◌∷◌, ◌++◌, map, filter, length, refl, sym, ◌∙◌, ap, subst, arith, append_assoc, length-append, Option, Some, None, is_some, IsTrue, Contains}
 use Rattle.std.specs.Prelude.{unwrap_or}
 use Rattle.std.specs.List.{zip}
 use Rattle.std.specs.FinMap.{get, find, entries, from_entries, get-entries}
@@ -71,9 +71,9 @@ module _ (t : FileTree) (tree : IsTree t) (e : Edit) (to : Names) (is_to : e.to 
   none_missing : missing t rs ≡ []
   none_missing = elim (cases_Bool (is_far r)) [
     | inl far ↦
-      ap (λ (l : List Names). filter (λ (p : Names). not (stands t p)) (l ++ [])) (cond-true (is_far r) (fronts (written r)) [] far)
-      ∙ ap (filter (λ (p : Names). not (stands t p))) (append-nil (fronts (written r)))
-      ∙ nothing_kept (λ (p : Names). not (stands t p)) (fronts (written r)) no_front_missing
+        ap (λ (l : List Names). filter (λ (p : Names). not (stands t p)) (l ++ [])) (cond-true (is_far r) (fronts (written r)) [] far)
+        ∙ ap (filter (λ (p : Names). not (stands t p))) (append-nil (fronts (written r)))
+        ∙ nothing_kept (λ (p : Names). not (stands t p)) (fronts (written r)) no_front_missing
     | inr near ↦ ap (λ (l : List Names). filter (λ (p : Names). not (stands t p)) (l ++ [])) (cond-false (is_far r) (fronts (written r)) [] near)
   ]
 
@@ -124,11 +124,11 @@ module _ (t : FileTree) (tree : IsTree t) (e : Edit) (to : Names) (is_to : e.to 
   below_goes = by_last (λ rest. place turn (e.source ++ rest) ≡ to ++ rest)
       (ap (place turn) (append-nil e.source) ∙ source_goes ∙ sym (append-nil to))
       (λ rest n before.
-          ap (place turn) (sym (append_assoc e.source rest (n ∷ [])))
-          ∙ place-push turn (e.source ++ rest) n
-          ∙ ap (λ (a : Turn). turned a (place turn (e.source ++ rest)) n) (turn_other ((e.source ++ rest) ++ n ∷ []) (λ same. not_source rest n (sym (append_assoc e.source rest (n ∷ [])) ∙ same)))
-          ∙ ap (λ (q : Names). q ++ n ∷ []) before
-          ∙ append_assoc to rest (n ∷ []))
+      ap (place turn) (sym (append_assoc e.source rest (n ∷ [])))
+      ∙ place-push turn (e.source ++ rest) n
+      ∙ ap (λ (a : Turn). turned a (place turn (e.source ++ rest)) n) (turn_other ((e.source ++ rest) ++ n ∷ []) (λ same. not_source rest n (sym (append_assoc e.source rest (n ∷ [])) ∙ same)))
+      ∙ ap (λ (q : Names). q ++ n ∷ []) before
+      ∙ append_assoc to rest (n ∷ []))
     where
       not_source : (rest : Names) (n : List ℕ) → e.source ++ (rest ++ n ∷ []) ≡ e.source → ⊥
       not_source [] n is = longer e.source [] n is
@@ -166,5 +166,5 @@ module _ (t : FileTree) (tree : IsTree t) (e : Edit) (to : Names) (is_to : e.to 
   pub renamed_is_edited : renamed t e.source to ≡ edited t (rows (Edits (e ∷ []))) []
   unfolding renamed
   renamed_is_edited = sym (
-    ap (λ (l : Entries). from_entries {R = path_cmp} (l ++ map (placed_entry (place turn) (with_new_mode t rs)) (filter (λ (x : Names × Node). is_kept rs x.0) (entries t)))) nothing_added
-    ∙ ap (λ (l : Entries). from_entries {R = path_cmp} l) (entries_go (entries t) (λ p some. kept p (ap is_some (get-entries t p) ∙ some))))
+      ap (λ (l : Entries). from_entries {R = path_cmp} (l ++ map (placed_entry (place turn) (with_new_mode t rs)) (filter (λ (x : Names × Node). is_kept rs x.0) (entries t)))) nothing_added
+      ∙ ap (λ (l : Entries). from_entries {R = path_cmp} l) (entries_go (entries t) (λ p some. kept p (ap is_some (get-entries t p) ∙ some))))

@@ -38,10 +38,21 @@ fn path_of(alloc: Global, text: &str) -> Result<Path, Memory> {
     }
 }
 
-// A tree of directories and of empty files with these names. The first file has this mode and the others 0o644.
-fn tree_of(alloc: Global, dirs: &[&str], files: &[&str], mode: u16) -> Result<MemTree, Memory> {
+// The words of a text, split by spaces.
+fn words_in<'a>(alloc: Global, text: &'a str) -> Result<Vec<&'a str>, Memory> {
+    let mut words = Vec::new(alloc);
+    for word in text.split(' ') {
+        if !word.is_empty() {
+            words.push(word)?;
+        }
+    }
+    Ok(words)
+}
+
+// A tree of directories and of empty files with these names, split by spaces. The first file has this mode and the others 0o644.
+fn tree_of(alloc: Global, dirs: &str, files: &str, mode: u16) -> Result<MemTree, Memory> {
     let mut entries = Vec::new(alloc);
-    for name in dirs {
+    for name in words_in(alloc, dirs)? {
         entries.push(Entry {
             path: path_of(alloc, name)?,
             node: Node::Dir(0o755),
@@ -50,7 +61,7 @@ fn tree_of(alloc: Global, dirs: &[&str], files: &[&str], mode: u16) -> Result<Me
     }
     let mut number = 0u64;
     let mut mode = mode;
-    for name in files {
+    for name in words_in(alloc, files)? {
         entries.push(Entry {
             path: path_of(alloc, name)?,
             node: Node::File {
@@ -236,7 +247,7 @@ fn commits_and_refusals(rt: HostRuntime) -> Result<(), Fail> {
         ),
     ];
     for (before, after, mode, number, output, left) in cases {
-        let mut tree = tree_of(alloc, &[], &["a", "b"], mode)?;
+        let mut tree = tree_of(alloc, "", "a b", mode)?;
         let mut shelf = shelf_of(alloc, before, after, &[])?;
         let mut sink = MemSink::new(alloc, Vec::new(alloc))?;
         assert!(rt; settle(&mut tree));
@@ -276,64 +287,38 @@ fn checks(rt: HostRuntime) -> Result<(), Fail> {
     let moved = "dired: line 4: MovedParent 4\n";
     let reserved = "dired: line 4: Reserved\n";
     let pending = "dired: an unfinished commit stands; run recover\n";
-    let plain: &[&str] = &["commit", "B", "A"];
+    let plain = "commit B A";
     // The words, the directories, the files, the two inputs, the status, what is written, and the files that are left.
-    let cases: [(&[&str], &[&str], &[&str], &str, &str, u8, &str, &str); 12] = [
-        (plain, &[], &["a", "b"], BEFORE, made, 8, taken, "ab"),
-        (plain, &["d"], &[], dir, dir_below, 8, moved, ""),
-        (plain, &[], &["a", "k"], one, below_k, 8, not_dir, "ak"),
-        (plain, &["d"], &["a"], one, onto_d, 8, is_dir, "a"),
-        (plain, &[], &["a"], one, held, 8, reserved, "a"),
-        (plain, &[], &["a", "k"], one, to_k, 9, replaced, "ak"),
+    let cases = [
+        (plain, "", "a b", BEFORE, made, 8, taken, "ab"),
+        (plain, "d", "", dir, dir_below, 8, moved, ""),
+        (plain, "", "a k", one, below_k, 8, not_dir, "ak"),
+        (plain, "d", "a", one, onto_d, 8, is_dir, "a"),
+        (plain, "", "a", one, held, 8, reserved, "a"),
+        (plain, "", "a k", one, to_k, 9, replaced, "ak"),
+        ("commit B A k", "", "a k", one, to_k, 23, not_built, "ak"),
         (
-            &["commit", "B", "A", "k"],
-            &[],
-            &["a", "k"],
+            "commit --all B A",
+            "",
+            "a k",
             one,
             to_k,
             23,
             not_built,
             "ak",
         ),
-        (
-            &["commit", "--all", "B", "A"],
-            &[],
-            &["a", "k"],
-            one,
-            to_k,
-            23,
-            not_built,
-            "ak",
-        ),
-        (
-            plain,
-            &[".wdired-commit"],
-            &["a"],
-            one,
-            to_k,
-            11,
-            pending,
-            "a",
-        ),
-        (
-            plain,
-            &[".wdired-commit"],
-            &["a"],
-            one,
-            one,
-            11,
-            pending,
-            "a",
-        ),
-        (plain, &["d"], &["a"], one, to_d, 0, ONE, "d/a"),
-        (plain, &[], &["a"], one, to_d, 23, not_built, "a"),
+        (plain, ".wdired-commit", "a", one, to_k, 11, pending, "a"),
+        (plain, ".wdired-commit", "a", one, one, 11, pending, "a"),
+        (plain, "d", "a", one, to_d, 0, ONE, "d/a"),
+        (plain, "", "a", one, to_d, 23, not_built, "a"),
     ];
     for (words, dirs, files, before, after, number, output, left) in cases {
         let mut tree = tree_of(alloc, dirs, files, 0o644)?;
         let mut shelf = shelf_of(alloc, before, after, &[])?;
         let mut sink = MemSink::new(alloc, Vec::new(alloc))?;
         assert!(rt; settle(&mut tree));
-        let status = try_run(alloc, words, &mut tree, &mut shelf, &mut sink)?;
+        let words = words_in(alloc, words)?;
+        let status = try_run(alloc, &words, &mut tree, &mut shelf, &mut sink)?;
         assert_eq!(rt; status.number(), number, "at {output}");
         assert_eq!(rt; sink.taken(), output.as_bytes());
         assert_eq!(rt; standing(alloc, &mut tree)?.as_str(), left, "at {output}");
@@ -358,7 +343,7 @@ fn words_inputs_and_output(rt: HostRuntime) -> Result<(), Fail> {
         (&["commit", "B", "A"], &[], &[0], 5, "", "bc"),
     ];
     for (words, fail_reads, fail_writes, number, output, left) in cases {
-        let mut tree = tree_of(alloc, &[], &["a", "b"], 0o644)?;
+        let mut tree = tree_of(alloc, "", "a b", 0o644)?;
         let mut shelf = shelf_of(alloc, BEFORE, RENAMED, fail_reads)?;
         let mut sink = MemSink::new(alloc, Vec::from_slice(alloc, fail_writes)?)?;
         assert!(rt; settle(&mut tree));
@@ -416,7 +401,7 @@ fn each_look_fails(rt: HostRuntime) -> Result<(), Fail> {
     let alloc = rt.alloc();
     let mut failed = 0;
     for look in 0..32 {
-        let mut tree = tree_of(alloc, &[], &["a", "b"], 0o644)?;
+        let mut tree = tree_of(alloc, "", "a b", 0o644)?;
         let mut shelf = shelf_of(alloc, BEFORE, RENAMED, &[])?;
         let mut sink = MemSink::new(alloc, Vec::new(alloc))?;
         tree.fail_looks(&[look])?;
@@ -454,7 +439,7 @@ fn each_change_fails(rt: HostRuntime) -> Result<(), Fail> {
         (&[(3, true)], "sync", "bc", 2),
     ];
     for (changes, call, left, image_count) in cases {
-        let mut tree = tree_of(alloc, &[], &["a", "b"], 0o644)?;
+        let mut tree = tree_of(alloc, "", "a b", 0o644)?;
         let mut shelf = shelf_of(alloc, BEFORE, RENAMED, &[])?;
         let mut sink = MemSink::new(alloc, Vec::new(alloc))?;
         tree.fail_changes(changes)?;
