@@ -1,6 +1,6 @@
 #!/usr/bin/env bash
 # The time of `commit` on buffers of 100,000 and of 199,990 lines beside `cat BEFORE AFTER | md5sum`, in an empty folder:
-# unchanged, with each name changed, with each mode changed, and with a bad name on the last line. Each ends before it
+# unchanged, with each name changed, with each mode changed (both more edits than there may be), and with a bad name on the last line. Each ends before it
 # changes anything.
 # edits.sh [PROGRAM]
 set -eu
