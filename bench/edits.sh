@@ -1,7 +1,7 @@
 #!/usr/bin/env bash
 # The time of `commit` on buffers of 100,000 and of 199,990 lines beside `cat BEFORE AFTER | md5sum`, in an empty folder:
-# unchanged, with each name changed, with each mode changed (both more edits than there may be), and with a bad name on the last line. Each ends before it
-# changes anything.
+# unchanged, with each name changed, with each mode changed (both are more edits than there may be), and with a bad name on the
+# last line. Each ends before it changes anything.
 # edits.sh [PROGRAM]
 set -eu
 . "$(dirname "$(readlink -f "$0")")/timing.sh"
