@@ -5,7 +5,8 @@ use crate::{Status, run};
 use dired_text::{Bytes, MemShelf, MemSink, Memory, Name, Path, Shelf, Sink, Text};
 use std::alloc::Global;
 use std::test::Fail;
-use tree_core::{Entry, Kind, MemTree, Node, Tree};
+use mem_tree::{Entry, MemTree};
+use tree_core::{Kind, Node, Tree};
 
 const BEFORE: &str =
     "dired 1\n  .:\n  total 2\n  -rw-r--r-- 1 u g 0 1970-01-01 00:00 a\n  -rw-r--r-- 1 u g 0 1970-01-01 00:00 b\n";

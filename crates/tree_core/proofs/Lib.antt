@@ -1,9 +1,6 @@
 pub mod TreeLemmas
 pub mod Sound
-pub mod Torn
 pub mod Moments
-pub mod MemLemmas
-pub mod BuiltLemmas
-pub mod ImageLemmas
+pub mod Runs
 pub mod NameLemmas
-pub mod FieldLemmas
+pub mod SubListLemmas

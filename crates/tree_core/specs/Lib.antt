@@ -1,10 +1,6 @@
 pub mod FileTree
 pub mod History
+pub mod Runs
+pub mod SubLists
 pub mod Faults
-pub mod Mem
-pub mod Allowed
-pub mod MemHistory
-pub mod Built
 pub mod Fields
-pub mod MemFields
-pub mod FieldLaws

@@ -1,0 +1,4 @@
+pub mod MemLemmas
+pub mod BuiltLemmas
+pub mod FieldLemmas
+pub mod RowNames
