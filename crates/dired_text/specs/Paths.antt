@@ -1,10 +1,10 @@
 -- Names as lists of bytes, and paths as lists of names. The empty list is the root.
-use Rattle.std.specs.Prelude.{ℕ, ◌-◌, ◌==◌, Bool, ◌&&◌, ◌||◌, not, nat_le, List, [], ◌∷◌, ◌++◌, length, take, Option, Some, None, if◌then◌else◌, is_some, codes}
+use Rattle.std.specs.Prelude.{ℕ, ◌-◌, ◌==◌, Bool, ◌&&◌, ◌||◌, not, nat_le, List, [], ◌∷◌, ◌++◌, length, take, Option, Some, None, if◌then◌else◌, is_some, codes, IsTrue}
 use Rattle.std.specs.List.{list_all}
 use Rattle.std.specs.declared.cmp.Ordering.{Ordering}
 use Rattle.std.specs.Ordering.{nat_cmp}
 use Rattle.std.specs.Cmp.Lexicographic.{slice_cmp}
-use Rattle.std.specs.Str.{bytes_eq}
+use Rattle.std.specs.Str.{bytes_eq, is_utf8}
 
 abbrev pub Names : Type 0
 Names = List (List ℕ)
@@ -24,6 +24,10 @@ is_dots n = bytes_eq n (codes ".") || bytes_eq n (codes "..")
 -- whether a text is a name: 1 to 255 bytes without `/` and NUL, and neither `.` nor `..`
 abbrev pub is_name : List ℕ → Bool
 is_name n = nat_le 1 (length n) && nat_le (length n) 255 && list_all is_name_byte n && not (is_dots n)
+
+-- each of these is a name, and UTF-8, as the names of a path are
+abbrev pub AreNames : Names → Type 0
+AreNames p = IsTrue (list_all (λ n. is_name n && is_utf8 n) p)
 
 -- the names, each behind a slash
 abbrev pub slashed : Names → List ℕ

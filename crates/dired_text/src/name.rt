@@ -6,6 +6,7 @@ ghost use Rattle.std.specs.Cmp.{partial_order_from_own_ties};
 ghost use Rattle.std.specs.Cmp.Rules.{comparing};
 ghost use Rattle.std.proofs.Common.{rules};
 ghost use Rattle.std.specs.List.{list_all};
+ghost use Rattle.std.specs.Str.{is_utf8};
 ghost use Rattle.dired_text.specs.Paths.{is_name, is_name_byte, is_dots as is_dots_text};
 
 use crate::Memory;
@@ -49,6 +50,7 @@ impl Name {
     pub fn as_str(&self) -> &str
         ensures value { result.now ≡ self.now }
         ensures name { IsTrue (is_name self.now) }
+        ensures utf8 { IsTrue (is_utf8 self.now) }
     {
         &self.text
     }

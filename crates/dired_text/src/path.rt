@@ -8,7 +8,7 @@ ghost use Rattle.std.specs.Cmp.{partial_order_from_own_ties, unsigned_ties};
 ghost use Rattle.std.specs.Cmp.Rules.{comparing};
 ghost use Rattle.std.proofs.Common.{rules};
 ghost use Rattle.std.specs.String.{string_bytes};
-ghost use Rattle.dired_text.specs.Paths.{joined, slashed, path_bytes, max_path_bytes, path_cmp, rest_below as rest_below_of};
+ghost use Rattle.dired_text.specs.Paths.{AreNames, joined, slashed, path_bytes, max_path_bytes, path_cmp, rest_below as rest_below_of};
 
 use crate::{Memory, Name, Text};
 use std::alloc::Global;
@@ -27,13 +27,13 @@ pub struct Path {
 
 impl Model for Path {
     ghost use Rattle.std.specs.Prelude.{List, ℕ, ◌≤◌};
-    ghost use Rattle.dired_text.specs.Paths.{path_bytes, max_path_bytes};
+    ghost use Rattle.dired_text.specs.Paths.{AreNames, path_bytes, max_path_bytes};
 
     ghost Value = { List (List ℕ) };
 
     ghost view = { λ p. p.names.items };
 
-    ghost invariant = { λ p. path_bytes p.names.items ≤ max_path_bytes };
+    ghost invariant = { λ p. (path_bytes p.names.items ≤ max_path_bytes) × AreNames p.names.items };
 }
 
 impl Path {
@@ -73,6 +73,7 @@ impl Path {
     pub fn names(&self) -> &[Name]
         ensures names { result.now ≡ self.now }
         ensures short { path_bytes self.now ≤ max_path_bytes }
+        ensures lawful { AreNames self.now }
     {
         &self.names
     }
@@ -132,7 +133,8 @@ pub(crate) fn copy_names(alloc: Global, names: &[Name]) -> Result<Vec<Name>, Mem
 
 // Whether the names, joined by `/`, have at most 4,095 bytes.
 fn is_short(names: &[Name]) -> bool
-    ensures { IsTrue result ↔ (path_bytes names.now ≤ max_path_bytes) }
+    ensures short { IsTrue result ↔ (path_bytes names.now ≤ max_path_bytes) }
+    ensures lawful { IsTrue result → AreNames names.now }
 {
     match names {
         [] => true,
@@ -142,7 +144,8 @@ fn is_short(names: &[Name]) -> bool
 
 // Whether so many bytes and the names, each behind a slash, are at most 4,095 bytes.
 fn fits(bytes: usize, names: &[Name]) -> bool
-    ensures { IsTrue result ↔ (bytes + length (slashed names.now) ≤ max_path_bytes) }
+    ensures short { IsTrue result ↔ (bytes + length (slashed names.now) ≤ max_path_bytes) }
+    ensures lawful { IsTrue result → AreNames names.now }
 {
     if bytes > MAX_PATH_BYTES {
         return false;
