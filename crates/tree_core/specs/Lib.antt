@@ -4,3 +4,4 @@ pub mod Runs
 pub mod SubLists
 pub mod Faults
 pub mod Fields
+pub mod Laws
