@@ -1,5 +1,5 @@
 -- What the named inputs and the output answer.
-use Rattle.std.specs.Prelude.{◌≡◌, ◌≤◌, ◌<◌, ℕ, List, length, ◌++◌, take, Option, Some, None, Result, Ok, Err, MatchResult, IsSomeAnd}
+use Rattle.std.specs.Prelude.{◌≡◌, ◌⊎◌, [], ◌∷◌, ◌≤◌, ◌<◌, ℕ, List, length, ◌++◌, take, Option, Some, None, Result, Ok, Err, MatchResult, IsSomeAnd}
 use Rattle.dired_text.specs.declared.shelf.ShelfEnd.{ShelfEnd}
 use Rattle.dired_text.specs.declared.shelf.ShelfEnd.TheVariants.{Absent, TooLarge, Failed, Memory}
 use Rattle.dired_text.specs.declared.text.Failed.{Failed as failed}
@@ -40,3 +40,7 @@ TakesAs result piece old new = MatchResult result (λ _. new ≡ old ++ piece) (
 -- a call of the outside that fails raises the count, and no other answer changes it
 abbrev pub Counts : {T : Type 0} → Result T failed → ℕ → ℕ → Type 0
 Counts result old new = MatchResult result (λ _. new ≡ old) (λ _. new ≡ raised old)
+
+-- the texts run so far behind one more, each with the number that it gave: one that failed was run without a number, or not at all
+abbrev pub RunsAs : List ℕ → List (List ℕ × Option ℕ) → List (List ℕ × Option ℕ) → Result ℕ failed → Type 0
+RunsAs text old new result = MatchResult result (λ number. new ≡ old ++ (text, Some number) ∷ []) (λ _. (new ≡ old) ⊎ (new ≡ old ++ (text, None) ∷ []))

@@ -1,7 +1,7 @@
 // What builds patterns, with a schedule of failures.
-ghost use Rattle.std.specs.Prelude.{◌≡◌, ◌⊎◌, ◌≢◌, IfOk, IfErr, IsTrue, Err};
-ghost use Rattle.dired_text.specs.MemOutside.{is_scheduled, patterns_schedule, patterns_calls, patterns_refusals};
-ghost use Rattle.dired_text.specs.Patterns.{RefusesText, BuildsAs};
+ghost use Rattle.std.specs.Prelude.{◌≡◌, IfOk, Err};
+ghost use Rattle.dired_text.specs.MemOutside.{patterns_schedule, patterns_calls, patterns_refusals, PatternsMayFail, PatternsObey};
+ghost use Rattle.dired_text.specs.Patterns.{IsPatternOf, CountsRefusals, BuildsAs};
 
 use crate::{Memory, Patterns, PatternsError};
 use regex::{Error, Regex};
@@ -34,9 +34,14 @@ impl MemPatterns {
 impl Patterns for MemPatterns {
     ghost refusals = { patterns_refusals };
 
-    ghost MayFail = { λ old new text. (IsTrue (is_scheduled (patterns_schedule old) (patterns_calls old))) ⊎ (RefusesText text) };
+    ghost MayFail = { PatternsMayFail };
 
-    fn build(&mut self, alloc: Global, text: &str) -> Result<Regex, PatternsError> {
+    fn build(&mut self, alloc: Global, text: &str) -> Result<Regex, PatternsError>
+        ensures read { IfOk result (IsPatternOf text.now) }
+        ensures count { CountsRefusals result (patterns_refusals self.old) (patterns_refusals self.new) }
+        ensures may_fail { result ≡ Err PatternsError.Refused → PatternsMayFail self.old self.new text.now }
+        ensures obeys { PatternsObey self.old self.new result }
+    {
         let number = self.calls;
         self.calls = number.saturating_add(1);
         if self.fail.contains(&number) {

@@ -1,9 +1,9 @@
 // Named inputs in memory.
-ghost use Rattle.std.specs.Prelude.{◌≡◌, ◌≢◌, Err, IfOk, IsTrue, None, OnOk, OnErr, Some};
+ghost use Rattle.std.specs.Prelude.{◌≡◌, ◌≢◌, ◌≤◌, length, Err, IfOk, None, OnOk, OnErr, Some};
 ghost use Rattle.std.specs.Option.{option_map};
 ghost use Rattle.dired_text.specs.Counts.{raised};
-ghost use Rattle.dired_text.specs.Outside.{ReadsAs};
-ghost use Rattle.dired_text.specs.MemOutside.{file_of, is_scheduled, shelf_files, shelf_schedule, shelf_reads, shelf_faults, shelf_last_failed};
+ghost use Rattle.dired_text.specs.Outside.{ReadsAs, count_after, last_after};
+ghost use Rattle.dired_text.specs.MemOutside.{file_of, shelf_files, shelf_schedule, shelf_reads, shelf_faults, shelf_last_failed, ShelfMayFail, ShelfObeys};
 
 use crate::{Bytes, Memory, Shelf, ShelfEnd, Text};
 use std::alloc::Global;
@@ -43,6 +43,7 @@ impl MemShelf {
     fn note_failure(&mut self, name: &str) -> Result<(), Memory>
         ensures files { shelf_files self.new ≡ shelf_files self.old }
         ensures failed { OnOk result (shelf_faults self.new ≡ raised (shelf_faults self.old)) }
+        ensures schedule { (shelf_schedule self.new ≡ shelf_schedule self.old) × (shelf_reads self.new ≡ shelf_reads self.old) }
         ensures named { OnOk result (shelf_last_failed self.new ≡ Some name.now) }
         ensures same { OnErr result (self.new ≡ self.old) }
     {
@@ -61,9 +62,17 @@ impl Shelf for MemShelf {
 
     ghost faults = { shelf_faults };
 
-    ghost MayFail = { λ old new. IsTrue (is_scheduled (shelf_schedule old) (shelf_reads old)) };
+    ghost MayFail = { ShelfMayFail };
 
-    fn read(&mut self, alloc: Global, name: &str, limit: u64) -> Result<Bytes, ShelfEnd> {
+    fn read(&mut self, alloc: Global, name: &str, limit: u64) -> Result<Bytes, ShelfEnd>
+        ensures limit { IfOk result (λ bytes. length bytes ≤ limit) }
+        ensures read { ReadsAs (shelf_files self.old name.now) limit result }
+        ensures files { shelf_files self.new ≡ shelf_files self.old }
+        ensures last_failed { shelf_last_failed self.new ≡ last_after result name.now (shelf_last_failed self.old) }
+        ensures count { shelf_faults self.new ≡ count_after result (shelf_faults self.old) }
+        ensures may_fail { result ≡ Err ShelfEnd.Failed → ShelfMayFail self.old self.new }
+        ensures obeys { ShelfObeys self.old self.new result }
+    {
         let number = self.reads;
         self.reads = number.saturating_add(1);
         if self.fail.contains(&number) {

@@ -1,7 +1,7 @@
 // An output in memory.
-ghost use Rattle.std.specs.Prelude.{◌≡◌, ◌⊎◌, [], IfOk, IsTrue};
-ghost use Rattle.dired_text.specs.Counts.{Rose};
-ghost use Rattle.dired_text.specs.MemOutside.{is_scheduled, sink_taken, sink_schedule, sink_calls, sink_faults, sink_short};
+ghost use Rattle.std.specs.Prelude.{◌≡◌, [], IfOk, OnErr};
+ghost use Rattle.dired_text.specs.Outside.{TakesAs, Counts};
+ghost use Rattle.dired_text.specs.MemOutside.{sink_taken, sink_schedule, sink_calls, sink_faults, sink_short, SinkMayFail, SinkObeys};
 
 use crate::{Failed, Memory, Sink};
 use std::alloc::Global;
@@ -57,9 +57,14 @@ impl Sink for MemSink {
 
     ghost faults = { sink_faults };
 
-    ghost MayFail = { λ old new. ((IsTrue (is_scheduled (sink_schedule old) (sink_calls old))) × (sink_taken new ≡ sink_taken old)) ⊎ (Rose (sink_short old) (sink_short new)) };
+    ghost MayFail = { SinkMayFail };
 
-    fn put(&mut self, piece: &[u8]) -> Result<(), Failed> {
+    fn put(&mut self, piece: &[u8]) -> Result<(), Failed>
+        ensures taken { TakesAs result piece.now (sink_taken self.old) (sink_taken self.new) }
+        ensures count { Counts result (sink_faults self.old) (sink_faults self.new) }
+        ensures may_fail { OnErr result (SinkMayFail self.old self.new) }
+        ensures obeys { SinkObeys self.old self.new result }
+    {
         let number = self.calls;
         self.calls = number.saturating_add(1);
         if self.fail.contains(&number) {

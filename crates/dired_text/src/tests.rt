@@ -90,6 +90,27 @@ fn the_sink_takes_and_fails_as_scheduled(rt: HostRuntime) -> Result<(), Fail> {
     Ok(())
 }
 
+fn runs_as<S: Shell>(shell: &mut S, text: &str, want: Result<u8, Failed>) -> bool {
+    shell.run(text) == want
+}
+
+#[test]
+fn the_shell_runs_and_fails_as_scheduled(rt: HostRuntime) -> Result<(), Fail> {
+    let alloc = rt.alloc();
+    let mut shell = MemShell::new(alloc, 3, vec![in alloc; 1]?)?;
+    for (text, want) in [("ls", Ok(3)), ("rm x", Err(Failed)), ("", Ok(3))] {
+        assert!(rt; runs_as(&mut shell, text, want), "{text}");
+    }
+    let texts: Vec<&str> = shell
+        .texts()
+        .iter()
+        .map(|text| text.as_str())
+        .collect(alloc)?;
+    assert_eq!(rt; texts.as_slice(), ["ls", ""].as_slice());
+    assert_eq!(rt; shell.short(), 0);
+    Ok(())
+}
+
 fn names_as(
     alloc: Global,
     dir: &Path,
