@@ -5,3 +5,4 @@ pub mod SubLists
 pub mod Faults
 pub mod Fields
 pub mod Laws
+pub mod Looks
