@@ -1,4 +1,5 @@
 mod OneLineLemmas
 mod ReadLemmas
+mod Texts
 mod SectionLemmas
 mod PrintedLemmas

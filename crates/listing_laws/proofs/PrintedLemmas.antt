@@ -28,7 +28,8 @@ use Rattle.wdired_buffer.specs.declared.line.BufferLine.{BufferLine}
 use Rattle.wdired_buffer.specs.Lines.{lines}
 use Rattle.wdired_buffer.specs.Buffer.{buffer_of, lines_from, max_lines}
 use Rattle.wdired_buffer.specs.declared.due.Due.TheVariants as due
-use Rattle.listing_laws.specs.Printed.{PrintedIsRead, AreTexts, IsNameText, IsPathText, Section, AreListed, shown_in, entries_in}
+use Rattle.listing_laws.proofs.Texts.{IsNameText, IsPathText, AreShown, shown_texts, path_texts}
+use Rattle.listing_laws.specs.Printed.{PrintedIsRead, IsHeldPath, Section, AreListed, shown_in, entries_in}
 use Rattle.listing_laws.specs.OneLine.{section_lines}
 use Rattle.listing_laws.proofs.SectionLemmas.{IsRow, IsReadable, printed, sections_read}
 use Rattle.listing_laws.proofs.OneLineLemmas.{listing-lines}
@@ -80,7 +81,7 @@ row_lawful n meta lawful name utf8 links size =
       target = target_of_kind meta.kind meta.mode meta.target utf8 lawful.shape;
     }
 
-module _ (t : FileTree) (fields : Names → Meta) (switches : Switches) (shown : AreFields t fields) (texts : AreTexts t fields) where
+module _ (t : FileTree) (fields : Names → Meta) (switches : Switches) (shown : AreFields t fields) (texts : AreShown t fields) where
   row_of : (p : Names) (n : List ℕ) (line : Line) → Stands t (p ++ n ∷ []) → line_at fields switches p n ≡ Some line → IsRow p line
   row_of p n line stands is = by_test (is_listed switches p n) refl is
     where
@@ -148,7 +149,7 @@ record IsSound (s : Section) : Type 0 where
   dir : IsPathText s.0
   rows : AllByRecursion (IsRow s.0) s.1
 
-sound_of : (switches : Switches) (t : FileTree) (fields : Names → Meta) → AreFields t fields → AreTexts t fields → (paths : List Names) (ss : List Section) → AreListed switches t fields paths ss → AllByRecursion IsPathText paths → AllByRecursion IsSound ss
+sound_of : (switches : Switches) (t : FileTree) (fields : Names → Meta) → AreFields t fields → AreShown t fields → (paths : List Names) (ss : List Section) → AreListed switches t fields paths ss → AllByRecursion IsPathText paths → AllByRecursion IsSound ss
 sound_of switches t fields shown texts [] [] all paths = tt
 sound_of switches t fields shown texts [] (s ∷ ss) all paths = absurd all
 sound_of switches t fields shown texts (p ∷ ps) [] all paths = absurd all
@@ -183,7 +184,7 @@ split_listing s later text sound is =
 
 -- no section has more lines than the whole
 abbrev IsFew : Section → Type 0
-IsFew s = length s.1 ≤ 200_000
+IsFew s = length s.1 ≤ 400_000
 
 section_length : (s : Section) → length (section_lines (printed s)) ≡ length s.1 + 2
 section_length s =
@@ -191,14 +192,14 @@ section_length s =
     let rows : length (unmarked s.1) ≡ length s.1 = length-map s.1 _ in
     omega (arith, files, rows)
 
-few_later : (later : List Section) → length (flat_map (λ (t : Section). [] ∷ section_lines (printed t)) later) ≤ 200_000 → AllByRecursion IsFew later
+few_later : (later : List Section) → length (flat_map (λ (t : Section). [] ∷ section_lines (printed t)) later) ≤ 400_000 → AllByRecursion IsFew later
 few_later [] few = tt
 few_later (t ∷ later) few =
     let both : length (([] ∷ section_lines (printed t)) ++ flat_map (λ (u : Section). [] ∷ section_lines (printed u)) later) ≡ length ([] ∷ section_lines (printed t)) + length (flat_map (λ (u : Section). [] ∷ section_lines (printed u)) later) = length-append ([] ∷ section_lines (printed t)) _ in
     let one = section_length t in
     ((omega (arith, both, one, few)), few_later later (omega (arith, both, few)))
 
-few_each : (s : Section) (later : List Section) (all : List (List ℕ)) → all ≡ codes "dired 1" ∷ (section_lines (printed s) ++ flat_map (λ (t : Section). [] ∷ section_lines (printed t)) later) → length all ≤ 200_000 → AllByRecursion IsFew (s ∷ later)
+few_each : (s : Section) (later : List Section) (all : List (List ℕ)) → all ≡ codes "dired 1" ∷ (section_lines (printed s) ++ flat_map (λ (t : Section). [] ∷ section_lines (printed t)) later) → length all ≤ 400_000 → AllByRecursion IsFew (s ∷ later)
 few_each s later all is few =
     let whole = ap length is in
     let both : length (section_lines (printed s) ++ flat_map (λ (u : Section). [] ∷ section_lines (printed u)) later) ≡ length (section_lines (printed s)) + length (flat_map (λ (u : Section). [] ∷ section_lines (printed u)) later) = length-append (section_lines (printed s)) _ in
@@ -223,9 +224,9 @@ root_path = (All-nil IsNameText, omega arith)
 pub printed_read : PrintedIsRead
 printed_read t fields switches dirs text shown texts paths (sections, are, is) few =
     let g = gather switches t fields (listed_paths dirs) sections are in
-    let listed = recursion_from_All IsPathText (listed_paths dirs) (paths_with-all IsPathText ([] ∷ []) dirs (All-cons IsPathText [] [] root_path (All-nil IsPathText)) (recursion_from_All IsPathText dirs paths)) in
+    let listed = recursion_from_All IsPathText (listed_paths dirs) (paths_with-all IsPathText ([] ∷ []) dirs (All-cons IsPathText [] [] root_path (All-nil IsPathText)) (path_texts dirs (recursion_from_All IsHeldPath dirs paths))) in
     let some = listed-some switches t fields (listed_paths dirs) g.0 g.1 (paths-some ([] ∷ []) dirs (λ none. cc)) in
-    let sound = sound_of switches t fields shown texts (listed_paths dirs) g.0 g.1 listed in
+    let sound = sound_of switches t fields shown (shown_texts t fields shown texts) (listed_paths dirs) g.0 g.1 listed in
     let whole : text ≡ codes "dired 1" ++ flat_map (λ (s : Section). 10 ∷ section_text_of s.0 (unmarked s.1)) g.0 =
     is ∙ ap listing_of g.2 ∙ ap (λ (l : List ℕ). codes "dired 1" ++ l) (flat_map-map (λ (section : List ℕ). 10 ∷ section) (λ (s : Section). section_text_of s.0 (unmarked s.1)) g.0) in
     let r = read_sections g.0 text some sound whole few in

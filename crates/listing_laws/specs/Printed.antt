@@ -1,9 +1,9 @@
 -- Printed listings are read back.
-use Rattle.std.specs.Prelude.{◌≡◌, ℕ, ◌≤◌, ◌<◌, ◌^◌, true, List, [], ◌∷◌, ◌++◌, length, map, flat_map, All, Ok, IsUtf8}
-use Rattle.dired_text.specs.Paths.{Names, is_name, path_bytes, max_path_bytes}
+use Rattle.std.specs.Prelude.{◌≡◌, ℕ, ◌≤◌, List, [], ◌∷◌, ◌++◌, length, map, flat_map, All, Ok}
+use Rattle.dired_text.specs.Paths.{Names, AreNames, path_bytes, max_path_bytes}
 use Rattle.tree_core.specs.declared.edit.Shown.{Shown}
 use Rattle.tree_core.specs.declared.meta.Meta.{Meta}
-use Rattle.tree_core.specs.FileTree.{FileTree, Stands}
+use Rattle.tree_core.specs.FileTree.{FileTree, AreTexts}
 use Rattle.tree_core.specs.Fields.{AreFields}
 use Rattle.listing_text.specs.declared.line.Line.{Line}
 use Rattle.listing_text.specs.declared.switches.Switches.{Switches}
@@ -13,20 +13,9 @@ use Rattle.wdired_buffer.specs.Lines.{lines}
 use Rattle.wdired_buffer.specs.Buffer.{buffer_of, max_lines}
 use Rattle.subdir_list.specs.Listings.{IsListing, IsListed, listed_paths}
 
--- a name as the program holds one: lawful, and UTF-8
-abbrev pub IsNameText : List ℕ → Type 0
-IsNameText n = (is_name n ≡ true) × IsUtf8 n
-
--- a path as the program holds one
-abbrev pub IsPathText : Names → Type 0
-IsPathText p = All IsNameText p × (path_bytes p ≤ max_path_bytes)
-
--- a tree and its fields as the program holds them: names and targets are texts, counts and sizes have 32 and 64 bits
-pub record AreTexts (t : FileTree) (fields : Names → Meta) : Type 0 where
-  pub names : (p : Names) (n : List ℕ) → Stands t (p ++ n ∷ []) → IsNameText n
-  pub targets : (p : Names) → Stands t p → IsUtf8 (fields p).target
-  pub links : (p : Names) → Stands t p → (fields p).links < 2 ^ 32
-  pub sizes : (p : Names) → Stands t p → (fields p).size < 2 ^ 64
+-- a path as a `Path` holds it
+abbrev pub IsHeldPath : Names → Type 0
+IsHeldPath p = AreNames p × (path_bytes p ≤ max_path_bytes)
 
 -- a directory with its lines
 abbrev pub Section : Type 0
@@ -58,10 +47,11 @@ entry_in (Entry text name_at source was) = (source, was) ∷ []
 abbrev pub entries_in : List BufferLine → List Listed
 entries_in lines = flat_map entry_in lines
 
--- A listing of a tree, of at most as many lines as a buffer may have, is read, and its entries are the listed paths.
+-- A listing of a tree, of at most as many lines as a buffer may have, is read, and its entries are the listed paths. Every tree
+-- that tells has such fields and texts.
 abbrev pub PrintedIsRead : Type 0
 PrintedIsRead =
     (t : FileTree) (fields : Names → Meta) (switches : Switches) (dirs : List Names) (text : List ℕ)
-    → AreFields t fields → AreTexts t fields → All IsPathText dirs → IsListing switches t fields dirs text → length (lines text) ≤ max_lines
+    → AreFields t fields → AreTexts t → All IsHeldPath dirs → IsListing switches t fields dirs text → length (lines text) ≤ max_lines
     → (sections : List Section) × (buffer : List BufferLine)
     × AreListed switches t fields (listed_paths dirs) sections × (buffer_of text ≡ Ok buffer) × (entries_in buffer ≡ flat_map shown_in sections)

@@ -20,7 +20,7 @@ use tree_core::{Kind, Shown};
 const FORMAT: &[u8] = b"dired 1";
 
 // The most lines that a buffer may have.
-const MAX_LINES: usize = 200_000;
+const MAX_LINES: usize = 400_000;
 
 /// The lines of a buffer. The first is `dired 1`; one or more sections follow, with an empty line between two. A section
 /// is its header, its total, and a line for each file. A newline may be missing behind the last line.
