@@ -1,14 +1,13 @@
 -- The lines and sections of a listing, by what a tree tells.
-use Rattle.std.specs.Prelude.{◌≡◌, ℕ, ◌==◌, Bool, false, not, ◌&&◌, ◌||◌, nat_le, List, [], ◌∷◌, ◌++◌, map, Option, Some, None, Result, if◌then◌else◌, codes, flat_map, IsPermutation, IsSorted, MatchResult}
+use Rattle.std.specs.Prelude.{◌≡◌, ℕ, ◌==◌, Bool, false, not, ◌&&◌, ◌||◌, nat_le, List, [], ◌∷◌, ◌++◌, map, Option, Some, None, if◌then◌else◌, codes, flat_map, IsPermutation, IsSorted}
 use Rattle.std.specs.List.{filter_map}
 use Rattle.std.specs.BTreeSet.{insert_key}
 use Rattle.std.specs.FinMap.{get}
 use Rattle.dired_text.specs.Paths.{Names, path_cmp, path_bytes, max_path_bytes}
-use Rattle.tree_core.specs.declared.faults.Faults.{Faults}
+use Rattle.tree_core.specs.declared.node.CallName.{CallName}
 use Rattle.tree_core.specs.declared.meta.Meta.{Meta}
 use Rattle.tree_core.specs.FileTree.{FileTree, is_dir_node}
 use Rattle.tree_core.specs.Fields.{names_in}
-use Rattle.tree_core.specs.Faults.{with_fault}
 use Rattle.listing_text.specs.Dates.{minute_of_second}
 use Rattle.listing_text.specs.Listed.{section_text_of}
 use Rattle.listing_text.specs.Order.{line_cmp}
@@ -96,20 +95,8 @@ Refuses (NotDirectory dir) first = first ≡ Some dir
 Refuses (TreeFault call) first = Unit {0}
 Refuses Memory first = Unit {0}
 
--- a listing that isn't made because of a failed call names it; every other end leaves the count
-abbrev pub EndByFault : ListEnd → Faults → Faults → Type 0
-EndByFault (TreeFault first) old new = new ≡ with_fault first old
-EndByFault (NotDirectory dir) old new = new ≡ old
-EndByFault Memory old new = new ≡ old
-
-abbrev pub ListsByFault : {A : Type 0} → Result A ListEnd → Faults → Faults → Type 0
-ListsByFault result old new = MatchResult result (λ _. new ≡ old) (λ end. EndByFault end old new)
-
--- the tree that the failed call found
-abbrev pub EndFound : ListEnd → FileTree → FileTree → FileTree → Type 0
-EndFound (TreeFault first) t old new = new ≡ t
-EndFound (NotDirectory dir) t old new = new ≡ old
-EndFound Memory t old new = new ≡ old
-
-abbrev pub ListFound : {A : Type 0} → Result A ListEnd → FileTree → FileTree → FileTree → Type 0
-ListFound result t old new = MatchResult result (λ _. new ≡ old) (λ end. EndFound end t old new)
+-- the failed call of the tree that an end names
+abbrev pub failed_call : ListEnd → Option CallName
+failed_call (NotDirectory dir) = None
+failed_call (TreeFault call) = Some call
+failed_call Memory = None

@@ -3,7 +3,8 @@ ghost use Rattle.std.specs.Prelude.{◌≡◌, ◌++◌, ◌∷◌, [], All, IfO
 ghost use Rattle.std.specs.List.{filter_map};
 ghost use Rattle.tree_core.specs.FileTree.{IsDir, Stands};
 ghost use Rattle.tree_core.specs.History.{current_tree};
-ghost use Rattle.subdir_list.specs.Listings.{is_hidden as is_hidden_name, line_of_meta, line_at, IsListed, Refuses, ListsByFault, ListFound};
+ghost use Rattle.subdir_list.specs.Listings.{is_hidden as is_hidden_name, line_of_meta, line_at, IsListed, Refuses, failed_call};
+ghost use Rattle.tree_core.specs.Looks.{OnlyLooked, failed_in, faults_with};
 
 use crate::ListEnd;
 use dired_text::{Name, Path, Text};
@@ -24,11 +25,10 @@ pub fn list_dir<T: Tree>(
 ) -> Result<Vec<Line>, ListEnd>
     requires dir { T.Tells → IsDir (current_tree (T.history tree.old)) dir.now }
     ensures lines { T.Tells → IfOk result (λ lines. IsListed switches.now (current_tree (T.history tree.old)) (T.fields tree.old) dir.now lines.items) }
-    ensures history { T.Tells → T.history tree.new ≡ T.history tree.old }
-    ensures fields { T.Tells → T.fields tree.new ≡ T.fields tree.old }
     ensures refused { IfErr result (λ end. Refuses end None) }
-    ensures found { T.Tells → ListFound result (current_tree (T.history tree.old)) (T.before_failed tree.old) (T.before_failed tree.new) }
-    ensures cause { ListsByFault result (T.faults tree.old) (T.faults tree.new) }
+    ensures looked { T.Tells → OnlyLooked (failed_in failed_call result) (T.history tree.old) (T.history tree.new)
+        (T.fields tree.old) (T.fields tree.new) (T.before_failed tree.old) (T.before_failed tree.new) }
+    ensures faults { T.faults tree.new ≡ faults_with (failed_in failed_call result) (T.faults tree.old) }
 {
     let names = match tree.names(alloc, dir) {
         Ok(names) => names,
@@ -50,11 +50,10 @@ fn lines_of<T: Tree>(
 ) -> Result<Vec<Line>, ListEnd>
     requires stand { T.Tells → All (λ name. Stands (current_tree (T.history tree.old)) (dir.now ++ name ∷ [])) names.now }
     ensures lines { T.Tells → IfOk result (λ lines. lines.items ≡ filter_map (line_at (T.fields tree.old) switches.now dir.now) names.now) }
-    ensures history { T.Tells → T.history tree.new ≡ T.history tree.old }
-    ensures fields { T.Tells → T.fields tree.new ≡ T.fields tree.old }
     ensures refused { IfErr result (λ end. Refuses end None) }
-    ensures found { T.Tells → ListFound result (current_tree (T.history tree.old)) (T.before_failed tree.old) (T.before_failed tree.new) }
-    ensures cause { ListsByFault result (T.faults tree.old) (T.faults tree.new) }
+    ensures looked { T.Tells → OnlyLooked (failed_in failed_call result) (T.history tree.old) (T.history tree.new)
+        (T.fields tree.old) (T.fields tree.new) (T.before_failed tree.old) (T.before_failed tree.new) }
+    ensures faults { T.faults tree.new ≡ faults_with (failed_in failed_call result) (T.faults tree.old) }
 {
     let mut lines = Vec::new(alloc);
     for name in names {
@@ -75,11 +74,10 @@ fn line_in<T: Tree>(
 ) -> Result<Option<Line>, ListEnd>
     requires stands { T.Tells → Stands (current_tree (T.history tree.old)) (dir.now ++ name.now ∷ []) }
     ensures line { T.Tells → IfOk result (λ line. line ≡ line_at (T.fields tree.old) switches.now dir.now name.now) }
-    ensures history { T.Tells → T.history tree.new ≡ T.history tree.old }
-    ensures fields { T.Tells → T.fields tree.new ≡ T.fields tree.old }
     ensures refused { IfErr result (λ end. Refuses end None) }
-    ensures found { T.Tells → ListFound result (current_tree (T.history tree.old)) (T.before_failed tree.old) (T.before_failed tree.new) }
-    ensures cause { ListsByFault result (T.faults tree.old) (T.faults tree.new) }
+    ensures looked { T.Tells → OnlyLooked (failed_in failed_call result) (T.history tree.old) (T.history tree.new)
+        (T.fields tree.old) (T.fields tree.new) (T.before_failed tree.old) (T.before_failed tree.new) }
+    ensures faults { T.faults tree.new ≡ faults_with (failed_in failed_call result) (T.faults tree.old) }
 {
     if !switches.all && is_hidden(name) {
         return Ok(None);

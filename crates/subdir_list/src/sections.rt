@@ -3,7 +3,8 @@ ghost use Rattle.std.specs.Prelude.{◌≡◌, All, IfOk, IfErr, OnOk, None, map
 ghost use Rattle.std.specs.FinMap.{get};
 ghost use Rattle.tree_core.specs.FileTree.{IsDir, is_dir_node};
 ghost use Rattle.tree_core.specs.History.{current_tree};
-ghost use Rattle.subdir_list.specs.Listings.{IsListing, IsSection, first_other, listed_paths, Refuses, ListsByFault, ListFound};
+ghost use Rattle.subdir_list.specs.Listings.{IsListing, IsSection, first_other, listed_paths, Refuses, failed_call};
+ghost use Rattle.tree_core.specs.Looks.{OnlyLooked, failed_in, faults_with};
 
 use crate::ListEnd;
 use crate::lines::list_dir;
@@ -28,10 +29,9 @@ pub fn list_dirs<T: Tree>(
     ensures listing { T.Tells → IfOk result (λ text. IsListing switches.now (current_tree (T.history tree.old)) (T.fields tree.old) dirs.now text) }
     ensures all { T.Tells → OnOk result (first_other (current_tree (T.history tree.old)) dirs.now ≡ None) }
     ensures refused { T.Tells → IfErr result (λ end. Refuses end (first_other (current_tree (T.history tree.old)) dirs.now)) }
-    ensures history { T.Tells → T.history tree.new ≡ T.history tree.old }
-    ensures fields { T.Tells → T.fields tree.new ≡ T.fields tree.old }
-    ensures found { T.Tells → ListFound result (current_tree (T.history tree.old)) (T.before_failed tree.old) (T.before_failed tree.new) }
-    ensures cause { ListsByFault result (T.faults tree.old) (T.faults tree.new) }
+    ensures looked { T.Tells → OnlyLooked (failed_in failed_call result) (T.history tree.old) (T.history tree.new)
+        (T.fields tree.old) (T.fields tree.new) (T.before_failed tree.old) (T.before_failed tree.new) }
+    ensures faults { T.faults tree.new ≡ faults_with (failed_in failed_call result) (T.faults tree.old) }
 {
     let paths = paths_of(alloc, tree, dirs)?;
     let mut text = Vec::new(alloc);
@@ -50,10 +50,9 @@ fn paths_of<T: Tree>(alloc: Global, tree: &mut T, dirs: &[Path]) -> Result<Vec<P
     ensures dirs { T.Tells → IfOk result (λ paths. All (λ p. IsDir (current_tree (T.history tree.old)) p) paths.items) }
     ensures all { T.Tells → OnOk result (first_other (current_tree (T.history tree.old)) dirs.now ≡ None) }
     ensures refused { T.Tells → IfErr result (λ end. Refuses end (first_other (current_tree (T.history tree.old)) dirs.now)) }
-    ensures history { T.Tells → T.history tree.new ≡ T.history tree.old }
-    ensures fields { T.Tells → T.fields tree.new ≡ T.fields tree.old }
-    ensures found { T.Tells → ListFound result (current_tree (T.history tree.old)) (T.before_failed tree.old) (T.before_failed tree.new) }
-    ensures cause { ListsByFault result (T.faults tree.old) (T.faults tree.new) }
+    ensures looked { T.Tells → OnlyLooked (failed_in failed_call result) (T.history tree.old) (T.history tree.new)
+        (T.fields tree.old) (T.fields tree.new) (T.before_failed tree.old) (T.before_failed tree.new) }
+    ensures faults { T.faults tree.new ≡ faults_with (failed_in failed_call result) (T.faults tree.old) }
 {
     let mut paths = BTreeSet::new(alloc);
     paths.insert(Path::root(alloc))?;
@@ -78,10 +77,9 @@ fn all_of(alloc: Global, paths: BTreeSet<Path>) -> Result<Vec<Path>, Memory>
 fn is_dir<T: Tree>(tree: &mut T, path: &Path) -> Result<bool, ListEnd>
     ensures dir { T.Tells → IfOk result (λ b. b ≡ is_dir_node (get (current_tree (T.history tree.old)) path.now)) }
     ensures refused { IfErr result (λ end. end ≡ ListEnd.TreeFault CallName.Kind) }
-    ensures history { T.Tells → T.history tree.new ≡ T.history tree.old }
-    ensures fields { T.Tells → T.fields tree.new ≡ T.fields tree.old }
-    ensures found { T.Tells → ListFound result (current_tree (T.history tree.old)) (T.before_failed tree.old) (T.before_failed tree.new) }
-    ensures cause { ListsByFault result (T.faults tree.old) (T.faults tree.new) }
+    ensures looked { T.Tells → OnlyLooked (failed_in failed_call result) (T.history tree.old) (T.history tree.new)
+        (T.fields tree.old) (T.fields tree.new) (T.before_failed tree.old) (T.before_failed tree.new) }
+    ensures faults { T.faults tree.new ≡ faults_with (failed_in failed_call result) (T.faults tree.old) }
 {
     match tree.kind(path) {
         Ok(kind) => Ok(kind == Some(Kind::Dir)),
@@ -99,10 +97,9 @@ fn section_of<T: Tree>(
     requires dir { T.Tells → IsDir (current_tree (T.history tree.old)) dir.now }
     ensures section { T.Tells → IfOk result (λ text. IsSection switches.now (current_tree (T.history tree.old)) (T.fields tree.old) dir.now text) }
     ensures refused { IfErr result (λ end. Refuses end None) }
-    ensures history { T.Tells → T.history tree.new ≡ T.history tree.old }
-    ensures fields { T.Tells → T.fields tree.new ≡ T.fields tree.old }
-    ensures found { T.Tells → ListFound result (current_tree (T.history tree.old)) (T.before_failed tree.old) (T.before_failed tree.new) }
-    ensures cause { ListsByFault result (T.faults tree.old) (T.faults tree.new) }
+    ensures looked { T.Tells → OnlyLooked (failed_in failed_call result) (T.history tree.old) (T.history tree.new)
+        (T.fields tree.old) (T.fields tree.new) (T.before_failed tree.old) (T.before_failed tree.new) }
+    ensures faults { T.faults tree.new ≡ faults_with (failed_in failed_call result) (T.faults tree.old) }
 {
     let lines = list_dir(alloc, tree, dir, switches)?;
     Ok(section_text(alloc, dir, &marked(alloc, lines)?)?)
