@@ -1,5 +1,5 @@
 #!/usr/bin/env bash
-# Folders of 32,768 and of 65,536 empty files: the time of `list`, and of the check of a listing in which each name is another one, in the
+# Folders of 131,072 and of 262,144 empty files: the time of `list`, and of the check of a listing in which each name is another one, in the
 # same directory and below one that has to be made. Each check ends with `not built yet`.
 # check.sh [PROGRAM]
 set -eu
@@ -7,7 +7,7 @@ set -eu
 
 in_tree() { (cd "$work/tree" && "$@" || true); }
 
-for files in 32768 65536; do
+for files in 131072 262144; do
     rm -rf "$work/tree"; mkdir "$work/tree"
     in_tree bash -c "seq -f 'file%06.0f' 1 $files | xargs touch"
     in_tree "$program" list > "$work/before"

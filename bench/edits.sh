@@ -1,6 +1,6 @@
 #!/usr/bin/env bash
-# The time of `commit` on buffers of 100,000 and of 199,990 lines beside `cat BEFORE AFTER | md5sum`, in an empty folder:
-# unchanged, with each name changed, with each mode changed (both are more edits than there may be), and with a bad name on the
+# The time of `commit` on buffers of 199,990 and of 399,980 lines beside `cat BEFORE AFTER | md5sum`, in an empty folder:
+# unchanged, with each name changed, with each mode changed (of the second more than there may be), and with a bad name on the
 # last line. Each ends before it changes anything.
 # edits.sh [PROGRAM]
 set -eu
@@ -10,7 +10,7 @@ mkdir "$work/empty"
 commit() { cd "$work/empty"; "$program" commit ../before "../$1" || true; cd - > /dev/null; }
 digest() { cat "$work/before" "$work/$1" | md5sum; }
 
-for lines in 100000 199990; do
+for lines in 199990 399980; do
     awk -v n="$lines" 'BEGIN { print "dired 1"; print "  .:"; print "  total " n
         for (i = 1; i <= n; i++) printf "  -rw-r--r-- 1 user group 0 2026-01-01 00:00 file%06d\n", i }' > "$work/before"
     cp "$work/before" "$work/unchanged"

@@ -74,7 +74,7 @@ def main():
     with tempfile.TemporaryDirectory() as work:
         tree = os.path.join(work, "tree")
         os.mkdir(tree)
-        for lines, too_large in ((200_000, False), (200_001, True)):
+        for lines, too_large in ((400_000, False), (400_001, True)):
             done = commit(program, work, of_lines(lines), b"")
             if (done.returncode == 18) != too_large:
                 print(f"FAILED: {lines} lines give status {done.returncode}")

@@ -72,8 +72,8 @@ printf 'dired 1\n  .:\n  total 0\n' > "$work/none"; run 'no files' 0 "$done_none
 sed 's/ b$/ \xff/' "$work/before" > "$work/bytes"
 run 'a BEFORE that is no UTF-8' 7 $'dired: ../bytes, line 5: Line Name\n' commit ../bytes ../bytes
 run 'an AFTER that is no UTF-8' 8 $'dired: line 5: BadName\n' commit ../before ../bytes
-head -c 33554433 /dev/zero > "$work/large"
-run 'too large' 18 $'dired: too large: BufferBytes 33554433\n' commit ../large ../after
+head -c 67108865 /dev/zero > "$work/large"
+run 'too large' 18 $'dired: too large: BufferBytes 67108865\n' commit ../large ../after
 rm "$work/large"
 sed 's/ b$/ d/; s/ a$/ c/' "$work/before" > "$work/after"
 run 'two edits' 23 $'dired: line 5: not built yet\n' commit ../before ../after

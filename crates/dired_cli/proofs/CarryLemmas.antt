@@ -41,9 +41,9 @@ none_if (Some a) e = cc
 
 -- The only edit can be renamed, and that makes the edited tree.
 can_act : (t : FileTree) (edits : List Edit) (confirmed : Confirmed) → IsTree t → AreAsked (Edits edits) → CanBeMade t confirmed (rows (Edits edits)) → CanAct t (counts_of (sight_of t) (rows (Edits edits))) edits
-can_act t edits confirmed tree asked can e to is is_to one =
+can_act t edits confirmed tree asked can e to is is_to named one =
     let r : Row = edit_row e in
-    let renames : CanRename t e.source to = only_renamed t edits confirmed tree asked can e to is is_to one in
+    let renames : CanRename t e.source to = only_renamed t edits confirmed tree asked can e to is is_to named one in
     let none = retargets_none (counts_of (sight_of t) (r ∷ [])) (subst (λ (l : List Edit). is_one_name (counts_of (sight_of t) (rows (Edits l))) ≡ true) is one) in
     let no_target : is_some e.target ≡ false = first_fails (λ (o : Row). o.retargets) r [] none.0 in
     let no_mode : is_some e.mode ≡ false = first_fails (λ (o : Row). is_some o.mode) r [] none.1 in

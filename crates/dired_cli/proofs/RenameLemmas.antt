@@ -5,7 +5,7 @@ use Rattle.std.specs.List.{count_by, flat_map}
 use Rattle.std.proofs.lemmas.Bool.{cond-true, cond-false, cases_Bool}
 use Rattle.std.proofs.lemmas.List.{append-nil}
 use Rattle.std.proofs.lemmas.List.Elements.{All-head}
-use Rattle.dired_text.specs.Paths.{Names, rest_below, parent}
+use Rattle.dired_text.specs.Paths.{Names, rest_below, parent, AreNames}
 use Rattle.dired_text.proofs.PathLemmas.{rest_below-some, parent-push}
 use Rattle.tree_core.specs.declared.changes.Changes.TheVariants.{Edits}
 use Rattle.tree_core.specs.declared.changes.Confirmed.{Confirmed}
@@ -139,8 +139,9 @@ module _ (t : FileTree) (tree : IsTree t) (e : Edit) (to : Names) (is_to : e.to 
   apart (Some []) is = absurd (differs (rest_below-some e.source to [] is ∙ append-nil e.source))
   apart (Some (n ∷ rest)) is = absurd (not_below n rest (rest_below-some e.source to (n ∷ rest) is))
 
-  can_rename : is_one_name (counts_of (sight_of t) rs) ≡ true → CanRename t e.source to
-  can_rename one = record {
+  can_rename : AreNames to → is_one_name (counts_of (sight_of t) rs) ≡ true → CanRename t e.source to
+  can_rename named one = record {
+    named = named;
     stands = source_stands;
     not_root = some_source;
     absent = absent (replaces_none (counts_of (sight_of t) rs) one);
@@ -150,12 +151,12 @@ module _ (t : FileTree) (tree : IsTree t) (e : Edit) (to : Names) (is_to : e.to 
 
 -- The only edit can be renamed where all edits can be made and one new path is all that changes.
 pub only_renamed : (t : FileTree) (edits : List Edit) (confirmed : Confirmed) → IsTree t → AreAsked (Edits edits) → CanBeMade t confirmed (rows (Edits edits))
-    → (e : Edit) (to : Names) → edits ≡ e ∷ [] → e.to ≡ Some to → is_one_name (counts_of (sight_of t) (rows (Edits edits))) ≡ true → CanRename t e.source to
-only_renamed t edits confirmed tree asked can e to is is_to one =
+    → (e : Edit) (to : Names) → edits ≡ e ∷ [] → e.to ≡ Some to → AreNames to → is_one_name (counts_of (sight_of t) (rows (Edits edits))) ≡ true → CanRename t e.source to
+only_renamed t edits confirmed tree asked can e to is is_to named one =
     let lawful : IsEdit e = All-head IsEdit e [] (subst (λ (l : List Edit). All IsEdit l) is asked.lawful) in
     let no_root : IsNoRoot (edit_row e) = All-head IsNoRoot (edit_row e) [] (subst (λ (l : List Edit). All IsNoRoot (rows (Edits l))) is asked.not_root) in
     let fine : IsWellFormed t (edit_row e ∷ []) = subst (λ (l : List Edit). IsWellFormed t (rows (Edits l))) is can.well_formed in
-    can_rename t tree e to is_to lawful no_root fine (subst (λ (l : List Edit). is_one_name (counts_of (sight_of t) (rows (Edits l))) ≡ true) is one)
+    can_rename t tree e to is_to lawful no_root fine named (subst (λ (l : List Edit). is_one_name (counts_of (sight_of t) (rows (Edits l))) ≡ true) is one)
 
 -- The paths of hard links aren't spoken of by edits.
 pub asked_of_files : (is_file : Names → Type 0) (edits : List Edit) → AreAsked (Edits edits) → CanBeAsked is_file (Edits edits)

@@ -1,6 +1,6 @@
 -- What is to become of the tree: a refusal, nothing, or edits; or a listing of it.
 use Rattle.std.specs.Prelude.{◌≡◌, ◌⊎◌, ℕ, ◌==◌, Bool, true, ◌&&◌, List, [], ◌∷◌, ◌++◌, codes, decimal, flat_map, length, Option, Some, None, if◌then◌else◌}
-use Rattle.dired_text.specs.Paths.{Names, joined}
+use Rattle.dired_text.specs.Paths.{Names, joined, AreNames}
 use Rattle.tree_core.specs.declared.changes.Changes.TheVariants.{Edits}
 use Rattle.tree_core.specs.declared.edit.Edit.{Edit}
 use Rattle.tree_core.specs.declared.meta.Meta.{Meta}
@@ -107,7 +107,7 @@ FaultLeaves first old new found now =
 
 -- What the only edit, where it is carried out, needs of the tree: it can be renamed, and that makes the edited tree.
 abbrev pub CanAct : FileTree → Counts → List Edit → Type 0
-CanAct t counts edits = (edit : Edit) (to : Names) → edits ≡ edit ∷ [] → edit.to ≡ Some to → is_one_name counts ≡ true
+CanAct t counts edits = (edit : Edit) (to : Names) → edits ≡ edit ∷ [] → edit.to ≡ Some to → AreNames to → is_one_name counts ≡ true
     → CanRename t edit.source to × (renamed t edit.source to ≡ edited (Makes edits []) t)
 
 -- Done: the verdict refuses nothing, exactly the edited tree reads, nothing is pending, and the text is the output.

@@ -159,7 +159,11 @@ fn act_on_one<T: Tree>(
     ensures end { IfErr result IsRefusal }
 {
     match &edit.to {
-        Some(to) if is_one_name(counts) => rename(alloc, tree, edit, to, flagged),
+        Some(to) if is_one_name(counts) => {
+            // whose names are lawful, as a rename wants it
+            let _names = to.names();
+            rename(alloc, tree, edit, to, flagged)
+        }
         _ => Err(Status::NotBuilt { line: edit.line }),
     }
 }
