@@ -14,7 +14,8 @@ const STAGING: &str = ".wdired-commit";
 /// `tN`, `hN` and `fN`, N in decimal without a leading zero and of 32 bits. A rename leads neither to its own path, nor
 /// below or above it. Modes have at most the bits 0o7777 and differ. No path is the root.
 pub fn is_lawful(step: &Step) -> bool
-    ensures { IsTrue result ↔ IsLawfulStep step.now }
+    ensures lawful { IsTrue result ↔ IsLawfulStep step.now }
+    ensures test { result ≡ is_lawful_step step.now }
 {
     passes(step)
 }
