@@ -7,12 +7,11 @@ pub(crate) fn shared_bytes(base: &[u8], text: &[u8]) -> usize
     ensures shared { result ≡ shared_bytes_of base.now text.now }
     ensures in_text { result ≤ length text.now }
 {
-    let mut shared = 0;
-    for (b, t) in base.iter().zip(text) {
-        if *b != *t {
-            return shared;
+    let most = base.len().min(text.len());
+    for i in 0..most {
+        if base[i] != text[i] {
+            return i;
         }
-        shared += 1;
     }
-    shared
+    most
 }

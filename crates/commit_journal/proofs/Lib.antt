@@ -1,0 +1,4 @@
+pub mod ReadLemmas
+pub mod SharingLemmas
+pub mod StepLemmas
+pub mod TextLemmas
