@@ -1,3 +1,5 @@
+pub mod GrammarLemmas
+pub mod JournalLemmas
 pub mod ReadLemmas
 pub mod SharingLemmas
 pub mod StepLemmas

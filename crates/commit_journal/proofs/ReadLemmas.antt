@@ -217,3 +217,6 @@ path_takes v base bytes x fits e =
 pub path_again : (v : Version) (base : List ℕ) (p : Names) (rest : List ℕ) → p ≢ [] → IsPath p → path_at v base (path_text v base p ++ rest) ≡ Some (p, joined p, rest)
 unfolding path_at path_text
 path_again v base p rest some h = rw (text_again v base (joined p) rest h.short, path_holds p some h) refl
+
+pub rest_bytes : (bytes text rest : List ℕ) → IsBytes bytes → bytes ≡ text ++ rest → IsBytes rest
+rest_bytes bytes text rest fits e = subst IsBytes (ap (drop (length text)) e ∙ drop_at text rest (length text) refl) (IsBytes-drop (length text) bytes fits)
