@@ -107,7 +107,7 @@ steps_read v (suc n) base left bytes fit = by_next (λ b k bs f. steps_read v n 
         let next = next_takes v base left bytes x fit e in
         first_read v base left n bytes x.0 x.1 x.2 (steps_at v x.1 (left - step_bytes x.0) n x.2) next (others x.1 (left - step_bytes x.0) x.2 next.read.takes.rest_fits)
 
-front_nothing : (r : Result (List Step) (List ℕ)) → with_front [] r ≡ r
+pub front_nothing : (r : Result (List Step) (List ℕ)) → with_front [] r ≡ r
 front_nothing (Ok steps) = refl
 front_nothing (Err rest) = refl
 

@@ -4,6 +4,7 @@
 mod decoding;
 mod encoding;
 mod fault;
+mod laws;
 mod paths;
 mod reading;
 mod sharing;
@@ -13,4 +14,8 @@ mod version;
 pub use decoding::decode;
 pub use encoding::encode;
 pub use fault::JournalFault;
+pub use laws::{
+    a_fault_has_one_place, a_text_has_one_list_of_steps, steps_have_one_text,
+    the_greatest_number_is_shared,
+};
 pub use version::Version;
