@@ -4,7 +4,7 @@ use Rattle.std.specs.List.{AllByRecursion}
 use Rattle.dired_text.specs.Paths.{Names, joined, path_bytes}
 use Rattle.commit_steps.specs.declared.step.Step.{Step}
 use Rattle.commit_steps.specs.declared.step.Step.TheVariants.{MakeDir, Rename, Mode}
-use Rattle.commit_steps.specs.Steps.{HasPaths, IsLawfulStep, first_path}
+use Rattle.commit_steps.specs.Steps.{HasPaths, IsLawfulStep, first_path, all_bytes}
 use Rattle.commit_journal.specs.declared.version.Version.{Version}
 use Rattle.commit_journal.specs.declared.version.Version.TheVariants.{One, Two}
 use Rattle.commit_journal.specs.Sharing.{shared_bytes}
@@ -37,3 +37,9 @@ pub record CanSpell (v : Version) (steps : List Step) : Type 0 where
   pub lawful : AllByRecursion IsLawfulStep steps
   pub paths : AllByRecursion HasPaths steps
   pub within : IsWithin v max_all_bytes steps
+
+-- what `encode` writes: lawful steps, not too many, whose paths have not too many bytes together
+pub record CanEncode (steps : List Step) : Type 0 where
+  pub lawful : AllByRecursion IsLawfulStep steps
+  pub few : length steps < 2 ^ 32
+  pub within : all_bytes steps ≤ max_all_bytes

@@ -1,29 +1,43 @@
 // Steps written as a journal of version 2.
-ghost use Rattle.std.specs.Prelude.{◌≡◌, ◌≤◌, ◌<◌, ◌^◌, ◌++◌, IfOk, OnOk, length};
+ghost use Rattle.std.specs.Prelude.{◌≡◌, ◌++◌, ◌↔◌, IfOk, OnOk, IsTrue};
 ghost use Rattle.std.specs.List.{AllByRecursion};
 ghost use Rattle.dired_text.specs.Paths.{joined, slashed};
-ghost use Rattle.commit_steps.specs.Steps.{HasPaths, IsLawfulStep, IsName, IsPath, all_bytes, first_path};
+ghost use Rattle.commit_steps.specs.Steps.{HasPaths, IsName, IsPath, first_path};
 ghost use Rattle.commit_journal.specs.declared.version.Version.TheVariants.{Two};
-ghost use Rattle.commit_journal.specs.Grammar.{IsJournalOf, four_bytes, max_all_bytes};
-ghost use Rattle.commit_journal.specs.Spelling.{journal_text, path_text, step_text};
+ghost use Rattle.commit_journal.specs.Grammar.{IsJournalOf, four_bytes};
+ghost use Rattle.commit_journal.specs.Spelling.{CanEncode, journal_text, path_text, step_text};
 
 use crate::sharing::shared_bytes;
-use commit_steps::{Step, Steps};
+use commit_steps::{Step, Steps, is_lawful};
 use dired_text::{Bytes, Memory, Name, Path};
 use std::alloc::Global;
 
 // The most bytes that the paths of a journal of version 2 have together.
 pub(crate) const MAX_ALL_BYTES: usize = 268_435_456;
 
-/// The journal of these steps, of version 2. The steps have to be lawful, as [`commit_steps::is_lawful`] says, and
-/// fewer than 4,294,967,296, and their paths have at most 268,435,456 bytes together.
+/// Whether [`encode`] can write these steps: they are lawful, as [`commit_steps::is_lawful`] says, and fewer than
+/// 4,294,967,296, and their paths have at most 268,435,456 bytes together.
+pub fn can_encode(steps: &Steps) -> bool
+    ensures { IsTrue result ↔ CanEncode steps.now }
+{
+    let steps = steps.as_slice();
+    let mut left = MAX_ALL_BYTES;
+    for step in steps {
+        let bytes = step.path_bytes();
+        if !is_lawful(step) || left < bytes {
+            return false;
+        }
+        left -= bytes;
+    }
+    steps.len() <= u32::MAX as usize
+}
+
+/// The journal of these steps, of version 2.
 ///
 /// # Errors
 /// Want of memory.
 pub fn encode(alloc: Global, steps: &Steps) -> Result<Bytes, Memory>
-    requires lawful { AllByRecursion IsLawfulStep steps.now }
-    requires few { length steps.now < 2 ^ 32 }
-    requires within { all_bytes steps.now ≤ max_all_bytes }
+    requires { CanEncode steps.now }
     ensures journal { IfOk result (λ b. IsJournalOf Two steps.now b) }
     ensures text { IfOk result (λ b. b ≡ journal_text Two steps.now) }
 {

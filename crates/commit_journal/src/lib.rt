@@ -9,10 +9,12 @@ mod paths;
 mod reading;
 mod sharing;
 mod steps;
+#[cfg(test)]
+mod tests;
 mod version;
 
 pub use decoding::decode;
-pub use encoding::encode;
+pub use encoding::{can_encode, encode};
 pub use fault::JournalFault;
 pub use laws::{
     a_fault_has_one_place, a_text_has_one_list_of_steps, steps_have_one_text,

@@ -1,10 +1,8 @@
-use Rattle.std.proofs.Common.{◌≡◌, ◌≤◌, ◌<◌, ◌^◌, ◌∙◌, ap, sym, subst, List, ℕ, length, arith}
-use Rattle.std.specs.List.{AllByRecursion}
+use Rattle.std.proofs.Common.{◌≡◌, ◌∙◌, ap, sym, subst, List, ℕ}
 use Rattle.commit_steps.specs.declared.step.Step.{Step}
-use Rattle.commit_steps.specs.Steps.{IsLawfulStep, all_bytes}
 use Rattle.commit_journal.specs.declared.version.Version.TheVariants.{Two}
-use Rattle.commit_journal.specs.Grammar.{IsJournalOf, max_all_bytes}
-use Rattle.commit_journal.specs.Spelling.{journal_text}
+use Rattle.commit_journal.specs.Grammar.{IsJournalOf}
+use Rattle.commit_journal.specs.Spelling.{CanEncode, journal_text}
 use Rattle.commit_journal.proofs.GrammarLemmas.{journal_spells}
 use Rattle.commit_journal.proofs.WriteLemmas.{nothing_written, one_written, all_written}
 use Rattle.commit_journal.proofs.encoding.encode.Goals as goal
@@ -21,18 +19,14 @@ loop-step-preserved c =
 pub returns-clause-journal : goal.returns-clause-journal
 returns-clause-journal c =
     let steps = c.as_slice-steps.result.now in
-    let lawful : AllByRecursion IsLawfulStep steps = subst (AllByRecursion IsLawfulStep) (sym c.as_slice-steps.ensures) c.requires.lawful in
-    let few : length steps < 2 ^ 32 = rw c.as_slice-steps.ensures c.requires.few in
-    let within : all_bytes steps ≤ max_all_bytes = rw c.as_slice-steps.ensures c.requires.within in
-    let all = all_written steps c.loop-step.step-index c.loop-step.out.items c.loop-step.base.items c.loop-step.invariant c.loop-step-test.false few lawful within in
+    let fits : CanEncode steps = subst CanEncode (sym c.as_slice-steps.ensures) c.requires in
+    let all = all_written steps c.loop-step.step-index c.loop-step.out.items c.loop-step.base.items c.loop-step.invariant c.loop-step-test.false fits in
     let text : c.from_vec.result ≡ journal_text Two steps = c.from_vec.ensures ∙ all.1 in
     subst (λ (s : List Step). IsJournalOf Two s c.from_vec.result) c.as_slice-steps.ensures (subst (λ (l : List ℕ). IsJournalOf Two steps l) (sym text) (journal_spells Two steps all.0))
 
 pub returns-clause-text : goal.returns-clause-text
 returns-clause-text c =
     let steps = c.as_slice-steps.result.now in
-    let lawful : AllByRecursion IsLawfulStep steps = subst (AllByRecursion IsLawfulStep) (sym c.as_slice-steps.ensures) c.requires.lawful in
-    let few : length steps < 2 ^ 32 = rw c.as_slice-steps.ensures c.requires.few in
-    let within : all_bytes steps ≤ max_all_bytes = rw c.as_slice-steps.ensures c.requires.within in
-    let all = all_written steps c.loop-step.step-index c.loop-step.out.items c.loop-step.base.items c.loop-step.invariant c.loop-step-test.false few lawful within in
+    let fits : CanEncode steps = subst CanEncode (sym c.as_slice-steps.ensures) c.requires in
+    let all = all_written steps c.loop-step.step-index c.loop-step.out.items c.loop-step.base.items c.loop-step.invariant c.loop-step-test.false fits in
     c.from_vec.ensures ∙ all.1 ∙ ap (journal_text Two) c.as_slice-steps.ensures
