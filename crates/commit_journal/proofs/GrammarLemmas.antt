@@ -60,9 +60,10 @@ steps_spelled v base (step ∷ steps) text h =
 
 pub journal_spelled : (v : Version) (steps : List Step) (bytes : List ℕ) → IsJournalOf v steps bytes → CanSpell v steps × (bytes ≡ journal_text v steps)
 unfolding journal_text
-journal_spelled v steps bytes h =
-    (record { few = h.few; lawful = h.spelled.lawful; paths = h.spelled.paths; within = h.spelled.within },
-      h.is ∙ ap (λ (l : List ℕ). magic v ++ four_bytes (length steps) ++ l) (steps_spelled v [] steps h.body h.spelled.texts))
+journal_spelled v steps bytes h = (
+  record { few = h.few; lawful = h.spelled.lawful; paths = h.spelled.paths; within = h.spelled.within },
+  h.is ∙ ap (λ (l : List ℕ). magic v ++ four_bytes (length steps) ++ l) (steps_spelled v [] steps h.body h.spelled.texts),
+)
 
 pub journal_spells : (v : Version) (steps : List Step) → CanSpell v steps → IsJournalOf v steps (journal_text v steps)
 unfolding journal_text

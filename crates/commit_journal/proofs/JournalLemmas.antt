@@ -86,8 +86,11 @@ first_read v base left n bytes step first behind (Err rest) next read = record {
   steps = step ∷ read.steps;
   read = one_more v base left bytes step first behind read.steps rest next read.read;
   stops = elim read.stops [
-    | inl due ↦ inl (omega arith, (let less : left - (step_bytes step + all_bytes read.steps) ≡ left - step_bytes step - all_bytes read.steps = omega arith in
-      rw (less, next.read.is) due.1))
+    | inl due ↦ inl (
+      omega arith,
+      (let less : left - (step_bytes step + all_bytes read.steps) ≡ left - step_bytes step - all_bytes read.steps = omega arith in
+          rw (less, next.read.is) due.1),
+    )
     | inr over ↦ inr (ap suc over.0, over.1)
   ];
 }
@@ -193,14 +196,14 @@ step_none v steps text rest fit spelled none = by_next (next_at v (base_after []
     by_next (Some x) e =
         let next = next_takes v (base_after [] steps) (max_all_bytes - all_bytes steps) rest x fit e in
         let text_is : steps_text v [] (steps ++ x.0 ∷ []) ≡ text ++ step_text v (base_after [] steps) x.0 =
-            steps_text-push v [] steps x.0 ∙ ap (λ (l : List ℕ). l ++ step_text v (base_after [] steps) x.0) (sym (steps_spelled v [] steps text spelled.texts)) in
+        steps_text-push v [] steps x.0 ∙ ap (λ (l : List ℕ). l ++ step_text v (base_after [] steps) x.0) (sym (steps_spelled v [] steps text spelled.texts)) in
         absurd (none x.0 (step_text v (base_after [] steps) x.0) x.2 next.read.takes.parts
-            (subst (λ (l : List ℕ). AreSpelled v (steps ++ x.0 ∷ []) l) text_is (record {
-              lawful = all_push IsLawfulStep steps x.0 spelled.lawful next.lawful;
-              paths = all_push HasPaths steps x.0 spelled.paths next.read.paths;
-              within = within_push v max_all_bytes steps x.0 spelled.within next.fitting;
-              texts = steps_spell v [] (steps ++ x.0 ∷ []);
-            })))
+        (subst (λ (l : List ℕ). AreSpelled v (steps ++ x.0 ∷ []) l) text_is (record {
+          lawful = all_push IsLawfulStep steps x.0 spelled.lawful next.lawful;
+          paths = all_push HasPaths steps x.0 spelled.paths next.read.paths;
+          within = within_push v max_all_bytes steps x.0 spelled.within next.fitting;
+          texts = steps_spell v [] (steps ++ x.0 ∷ []);
+        })))
 
 magic_len : (v : Version) → length (magic v) ≡ 4
 magic_len One = refl
@@ -223,12 +226,14 @@ place v count bytes text rest offset is e =
 
 steps_outcome : (v : Version) (count : ℕ) (bytes from : List ℕ) (r : Result (List Step) (List ℕ)) → count < 2 ^ 32 → bytes ≡ magic v ++ four_bytes count ++ from → Reads v [] max_all_bytes count from r → IsRead bytes r
 unfolding journal_text
-steps_outcome v count bytes from (Ok steps) small is read =
-    (v, record { few = omega (arith, read.1); lawful = read.0.lawful; paths = read.0.paths; within = read.0.within },
-      is ∙ ap (λ (l : List ℕ). magic v ++ four_bytes count ++ l) (read.0.parts ∙ append-nil (steps_text v [] steps)) ∙ ap (λ (k : ℕ). magic v ++ four_bytes k ++ steps_text v [] steps) (sym read.1))
+steps_outcome v count bytes from (Ok steps) small is read = (
+  v,
+  record { few = omega (arith, read.1); lawful = read.0.lawful; paths = read.0.paths; within = read.0.within },
+  is ∙ ap (λ (l : List ℕ). magic v ++ four_bytes count ++ l) (read.0.parts ∙ append-nil (steps_text v [] steps)) ∙ ap (λ (k : ℕ). magic v ++ four_bytes k ++ steps_text v [] steps) (sym read.1),
+)
 steps_outcome v count bytes from (Err rest) small is stopped = λ offset e. inr (inr (
     let parts : bytes ≡ magic v ++ four_bytes count ++ steps_text v [] stopped.steps ++ rest =
-        is ∙ ap (λ (l : List ℕ). magic v ++ four_bytes count ++ l) stopped.read.parts ∙ sym (append_assoc (magic v ++ four_bytes count) (steps_text v [] stopped.steps) rest) in
+    is ∙ ap (λ (l : List ℕ). magic v ++ four_bytes count ++ l) stopped.read.parts ∙ sym (append_assoc (magic v ++ four_bytes count) (steps_text v [] stopped.steps) rest) in
     let spelled : AreSpelled v stopped.steps (steps_text v [] stopped.steps) = record { lawful = stopped.read.lawful; paths = stopped.read.paths; within = stopped.read.within; texts = steps_spell v [] stopped.steps } in
     record {
       version = v;
@@ -253,13 +258,15 @@ journal_read bytes fit = by_magic (magic_at bytes) refl
     by_count : (v : Version) (behind : List ℕ) → Takes bytes (magic v) behind → (o : Option (ℕ × List ℕ)) → number_at w32 behind ≡ o
         → IsRead bytes (or_stop behind o (λ n. steps_at v [] max_all_bytes n.0 n.1))
     by_count v behind t None e = λ offset at. inr (inl (
-        (let len = ap (λ (l : List ℕ). length l) t.parts ∙ length-append (magic v) behind in omega (arith, magic_len v, len)),
-        record { version = v; rest = behind; is = t.parts; short = number_none behind e }))
+      (let len = ap (λ (l : List ℕ). length l) t.parts ∙ length-append (magic v) behind in omega (arith, magic_len v, len)),
+      record { version = v; rest = behind; is = t.parts; short = number_none behind e },
+    ))
     by_count v behind t (Some n) e =
         let number = number_takes w32 (2 ^ 32) wide32 behind n.0 n.1 t.rest_fits e in
         steps_outcome v n.0 bytes n.1 (steps_at v [] max_all_bytes n.0 n.1) number.1
-            (t.parts ∙ ap (λ (l : List ℕ). magic v ++ l) number.0.parts ∙ sym (append_assoc (magic v) (four_bytes n.0) n.1))
-            (steps_read v n.0 [] max_all_bytes n.1 number.0.rest_fits)
+        (t.parts ∙ ap (λ (l : List ℕ). magic v ++ l) number.0.parts ∙ sym (append_assoc (magic v) (four_bytes n.0) n.1))
+        (steps_read v n.0 [] max_all_bytes n.1 number.0.rest_fits)
+
     by_magic : (o : Option (Version × List ℕ)) → magic_at bytes ≡ o → IsRead bytes (or_stop bytes o (λ m. or_stop m.1 (number_at w32 m.1) (λ n. steps_at m.0 [] max_all_bytes n.0 n.1)))
     by_magic None e = λ offset at. inl (omega arith, magic_none bytes e)
     by_magic (Some m) e = by_count m.0 m.1 (magic_takes bytes m.0 m.1 fit e) (number_at w32 m.1) refl
@@ -296,7 +303,7 @@ unfolding steps_at
 stops_due v count bytes steps text rest fit read stops =
     let front = steps_spelled v [] steps text read.spelled.texts in
     let parts : bytes ≡ magic v ++ four_bytes count ++ (steps_text v [] steps ++ rest) =
-        read.is ∙ append_assoc (magic v ++ four_bytes count) text rest ∙ ap (λ (l : List ℕ). magic v ++ four_bytes count ++ (l ++ rest)) front in
+    read.is ∙ append_assoc (magic v ++ four_bytes count) text rest ∙ ap (λ (l : List ℕ). magic v ++ four_bytes count ++ (l ++ rest)) front in
     let again = λ (n : ℕ). steps_again v steps n [] max_all_bytes rest read.spelled.lawful read.spelled.paths read.spelled.within in
     ap journal_at parts ∙ journal_from v count (steps_text v [] steps ++ rest) read.small ∙ elim stops [
       | inl due ↦

@@ -32,7 +32,7 @@ unfolding steps_at
 goes_on v front base left count i rest step first behind total lt h so_far =
     let k : count - i ≡ suc (count - (i + 1)) = omega arith in
     let one : with_front front (steps_at v base left (count - i) rest) ≡ with_front (front ++ step ∷ []) (steps_at v first (left - step_bytes step) (count - (i + 1)) behind) =
-        rw (k, h) (front_front front (step ∷ []) (steps_at v first (left - step_bytes step) (count - (i + 1)) behind)) in
+    rw (k, h) (front_front front (step ∷ []) (steps_at v first (left - step_bytes step) (count - (i + 1)) behind)) in
     sym one ∙ so_far
 
 pub refused_here : (bytes rest : List ℕ) (e : Refusal) (fault : JournalFault) (total : Result (List Step) (List ℕ)) → (e ≡ refusals.Unreadable → total ≡ Err rest) → IsFaultAt e bytes rest fault → StopsAt bytes fault total

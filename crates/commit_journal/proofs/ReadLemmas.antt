@@ -149,7 +149,7 @@ shared_takes base bytes text rest fits e =
     let further : length (d.0.0 ++ c.0.0) - a.0.0 ≡ b.0.0 = omega (arith, length-append d.0.0 c.0.0, t2.1) in
     let behind : drop a.0.0 (d.0.0 ++ c.0.0) ≡ c.0.0 = drop_at d.0.0 c.0.0 a.0.0 kept in
     let written : against Two base (d.0.0 ++ c.0.0) ≡ four_bytes a.0.0 ++ (four_bytes b.0.0 ++ c.0.0) =
-        rw (greatest, further, behind) (append_assoc (four_bytes a.0.0) (four_bytes b.0.0) c.0.0) in
+    rw (greatest, further, behind) (append_assoc (four_bytes a.0.0) (four_bytes b.0.0) c.0.0) in
     record { takes = subst (λ (p : List ℕ × List ℕ). Takes bytes (against Two base p.0) p.1) g.1 (subst (λ (t : List ℕ). Takes bytes t c.0.1) (sym written) e02) }
   where
     kept_len : (n : ℕ) (bytes text rest : List ℕ) → front_at n bytes ≡ Some (text, rest) → length text ≡ n
@@ -168,17 +168,21 @@ shared_again base text rest le =
     let n = shared_bytes base text in
     let shared = shared_is base text in
     let regrouped : against Two base text ++ rest ≡ four_bytes n ++ (four_bytes (length text - n) ++ (drop n text ++ rest)) =
-        append_assoc (four_bytes n ++ four_bytes (length text - n)) (drop n text) rest ∙ append_assoc (four_bytes n) (four_bytes (length text - n)) (drop n text ++ rest) in
+    append_assoc (four_bytes n ++ four_bytes (length text - n)) (drop n text) rest ∙ append_assoc (four_bytes n) (four_bytes (length text - n)) (drop n text ++ rest) in
     let front_is : front_at (length text - n) (drop n text ++ rest) ≡ Some (drop n text, rest) = front_again (drop n text) rest (length text - n) (length-drop n text) in
     let kept_is : front_at n base ≡ Some (take n base, drop n base) = kept n base shared.in_base in
     let whole : take n base ++ drop n text ≡ text = ap (λ (l : List ℕ). l ++ drop n text) shared.same ∙ take-append-drop n text in
     let lens : length (take n base) + length (drop n text) ≡ length text = sym (length-append (take n base) (drop n text)) ∙ ap (λ (l : List ℕ). length l) whole in
     let tests : (nat_le (length (take n base) + length (drop n text)) max_path_bytes && eqb (shared_bytes base (take n base ++ drop n text)) n) ≡ true =
-        and_make (nat_le (length (take n base) + length (drop n text)) max_path_bytes) _ (le_holds _ max_path_bytes (omega arith)) (eq_holds _ n (ap (shared_bytes base) whole)) in
+    and_make (nat_le (length (take n base) + length (drop n text)) max_path_bytes) _ (le_holds _ max_path_bytes (omega arith)) (eq_holds _ n (ap (shared_bytes base) whole)) in
     ap (shared_at base) regrouped
-    ∙ rw (number_again w32 (2 ^ 32) wide32 n (four_bytes (length text - n) ++ (drop n text ++ rest)) (omega (arith, shared.in_text)),
-        number_again w32 (2 ^ 32) wide32 (length text - n) (drop n text ++ rest) (omega arith),
-        front_is, kept_is, tests) (ap (λ (l : List ℕ). Some (l, rest)) whole)
+    ∙ rw (
+      number_again w32 (2 ^ 32) wide32 n (four_bytes (length text - n) ++ (drop n text ++ rest)) (omega (arith, shared.in_text)),
+      number_again w32 (2 ^ 32) wide32 (length text - n) (drop n text ++ rest) (omega arith),
+      front_is,
+      kept_is,
+      tests,
+    ) (ap (λ (l : List ℕ). Some (l, rest)) whole)
   where
     kept : (n : ℕ) (base : List ℕ) → n ≤ length base → front_at n base ≡ Some (take n base, drop n base)
     kept n base le = rw (le-ltb (length base) n le) refl

@@ -72,6 +72,7 @@ shared_is (b ∷ base) (t ∷ text) = elim (cases_Bool (eqb b t)) [
     further b t base text behind zero in_base in_text e = omega arith
     further b t base text behind (suc n) in_base in_text e =
         let most = behind.greatest n (omega arith) (omega arith) (tails b t (take n base) (take n text) e).1 in omega arith
+
     nothing : (b t : ℕ) (base text : List ℕ) → b ≢ t → (n : ℕ) → n ≤ suc (length base) → n ≤ suc (length text)
         → take n (b ∷ base) ≡ take n (t ∷ text) → n ≤ 0
     nothing b t base text differ zero in_base in_text e = omega arith

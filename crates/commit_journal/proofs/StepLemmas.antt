@@ -103,16 +103,20 @@ pub step_again : (v : Version) (base : List ℕ) (step : Step) (rest : List ℕ)
 unfolding step_at make_dir_at rename_at mode_at step_text
 step_again v base (MakeDir p) rest lawful paths = rw (path_again v base p rest (outside_some p lawful) paths) refl
 step_again v base (Rename from to) rest lawful paths =
-    rw (append_assoc (path_text v base from) (path_text v (joined from) to) rest,
+    rw (
+      append_assoc (path_text v base from) (path_text v (joined from) to) rest,
       path_again v base from (path_text v (joined from) to ++ rest) (step_path_some from lawful.0) paths.0,
-      path_again v (joined from) to rest (step_path_some to lawful.1) paths.1) refl
+      path_again v (joined from) to rest (step_path_some to lawful.1) paths.1,
+    ) refl
 step_again v base (Mode p old new) rest lawful paths =
     let grouped : (path_text v base p ++ two_bytes old ++ two_bytes new) ++ rest ≡ path_text v base p ++ (two_bytes old ++ (two_bytes new ++ rest)) =
-        append_assoc (path_text v base p ++ two_bytes old) (two_bytes new) rest ∙ append_assoc (path_text v base p) (two_bytes old) (two_bytes new ++ rest) in
+    append_assoc (path_text v base p ++ two_bytes old) (two_bytes new) rest ∙ append_assoc (path_text v base p) (two_bytes old) (two_bytes new ++ rest) in
     ap (mode_at v base) grouped
-    ∙ rw (path_again v base p (two_bytes old ++ (two_bytes new ++ rest)) (outside_some p lawful.0) paths,
+    ∙ rw (
+      path_again v base p (two_bytes old ++ (two_bytes new ++ rest)) (outside_some p lawful.0) paths,
       number_again w16 (2 ^ 16) wide16 old (two_bytes new ++ rest) (omega (arith, lawful.1)),
-      number_again w16 (2 ^ 16) wide16 new rest (omega (arith, lawful.2))) refl
+      number_again w16 (2 ^ 16) wide16 new rest (omega (arith, lawful.2)),
+    ) refl
 
 -- ---- lawful steps that don't pass the sum
 

@@ -160,12 +160,13 @@ part_refused text front c more refusals.Memory parts h = tt
 part_refused text front c more refusals.Unreadable parts h =
     let fails : list_all is_name_text (c ∷ more) ≡ false = and_no (is_name_text c) (list_all is_name_text more) (name_fails c h) in
     let all : list_all is_name_text (components text) ≡ false =
-        ap (list_all is_name_text) parts ∙ list_all-append is_name_text front (c ∷ more) ∙ ap (λ b. list_all is_name_text front && b) fails ∙ and_false (list_all is_name_text front) in
+    ap (list_all is_name_text) parts ∙ list_all-append is_name_text front (c ∷ more) ∙ ap (λ b. list_all is_name_text front && b) fails ∙ and_false (list_all is_name_text front) in
     by_all (list_all is_name_text (components text)) refl all
   where
     and_false : (a : Bool) → (a && false) ≡ false
     and_false true = refl
     and_false false = refl
+
     by_all : (b : Bool) → list_all is_name_text (components text) ≡ b → b ≡ false → cond (nat_le (length text) max_path_bytes && list_all is_name_text (components text)) (Some (components text)) None ≡ None
     by_all b is fails = rw (is, fails, and_false (nat_le (length text) max_path_bytes)) refl
 

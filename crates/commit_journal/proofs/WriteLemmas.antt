@@ -35,9 +35,9 @@ one_written steps i out base step against next last w within is b n l paths =
     let front = take i steps in
     let more : take (i + 1) steps ≡ front ++ step ∷ [] = take_more steps i step within ∙ ap (λ (s : Step). front ++ s ∷ []) (sym is) in
     let text : next ≡ head (length steps) ++ steps_text Two [] (front ++ step ∷ []) =
-        n ∙ ap (λ (t : List ℕ). t ++ step_text Two against step) w.text ∙ ap (λ (t : List ℕ). (head (length steps) ++ steps_text Two [] front) ++ step_text Two t step) (b ∙ w.is_base)
-        ∙ append_assoc (head (length steps)) (steps_text Two [] front) (step_text Two (base_after [] front) step)
-        ∙ ap (λ (t : List ℕ). head (length steps) ++ t) (sym (steps_text-push Two [] front step)) in
+    n ∙ ap (λ (t : List ℕ). t ++ step_text Two against step) w.text ∙ ap (λ (t : List ℕ). (head (length steps) ++ steps_text Two [] front) ++ step_text Two t step) (b ∙ w.is_base)
+    ∙ append_assoc (head (length steps)) (steps_text Two [] front) (step_text Two (base_after [] front) step)
+    ∙ ap (λ (t : List ℕ). head (length steps) ++ t) (sym (steps_text-push Two [] front step)) in
     record {
       text = text ∙ ap (λ (ss : List Step). head (length steps) ++ steps_text Two [] ss) (sym more);
       is_base = l ∙ sym (base_after-push [] front step) ∙ ap (base_after []) (sym more);

@@ -7,11 +7,11 @@ ghost use Rattle.commit_journal.specs.Faults.{IsRefused};
 ghost use Rattle.commit_journal.specs.Grammar.{IsJournal, max_all_bytes};
 ghost use Rattle.commit_journal.specs.Reading.{GivesSteps, IsFaultAt, steps_at, journal_at};
 
+use crate::Version;
 use crate::encoding::MAX_ALL_BYTES;
 use crate::fault::{JournalFault, Refusal};
 use crate::reading::{read_four, read_magic};
 use crate::steps::read_next;
-use crate::Version;
 use commit_steps::Steps;
 use std::alloc::Global;
 

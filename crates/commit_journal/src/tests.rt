@@ -130,7 +130,10 @@ static JOURNALS: [(&str, &str); 54] = [
     ("'WDJ1' 00000001 'M' 0001 'a' 01a4 01a4", "bad at 8"),
     ("'WDJ1' 00000001 'M' 0001 'a' 01a4 1000", "bad at 8"),
     ("'WDJ1' 00000001 'M' 0001 'a' 1000 01a4", "bad at 8"),
-    ("'WDJ1' 00000002 'D' 0001 'a' 'M' 0001 'a' 01a4 01", "bad at 12"),
+    (
+        "'WDJ1' 00000002 'D' 0001 'a' 'M' 0001 'a' 01a4 01",
+        "bad at 12",
+    ),
 ];
 
 // Journals, and the journals of version 2 of their steps.
@@ -236,7 +239,11 @@ fn steps_are_written_as_version_two(rt: HostRuntime) -> Result<(), Fail> {
     let alloc = rt.alloc();
     for (text, want) in &WRITTEN {
         let journal = rewritten(alloc, &bytes_of(alloc, text)?)?.ok_or("not written")?;
-        assert_eq!(rt; journal.as_slice(), bytes_of(alloc, want)?.as_slice(), "{text}");
+        assert_eq!(rt;
+            journal.as_slice(),
+            bytes_of(alloc, want)?.as_slice(),
+            "{text}"
+        );
     }
     Ok(())
 }
@@ -272,6 +279,9 @@ fn paths_have_a_greatest_sum(rt: HostRuntime) -> Result<(), Fail> {
     for _ in 0..65_552 {
         bytes.extend_from_slice(&same)?;
     }
-    assert_eq!(rt; decode(alloc, &bytes).err(), Some(JournalFault::BadJournal(594_071)));
+    assert_eq!(rt;
+        decode(alloc, &bytes).err(),
+        Some(JournalFault::BadJournal(594_071))
+    );
     Ok(())
 }

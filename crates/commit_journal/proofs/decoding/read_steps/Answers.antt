@@ -27,7 +27,7 @@ pub loop-preserved : goal.loop-preserved
 loop-preserved c =
     let read = c.in-Ok.read in
     let next : next_at c.args.version c.loop.base.items c.loop.left c.loop.rest.now ≡ Some (read.step, read.first.items, read.rest.now) =
-        ap (λ (b : List ℕ). next_at c.args.version b c.loop.left c.loop.rest.now) (sym c.deref.ensures.value) ∙ c.in-Ok.ensures in
+    ap (λ (b : List ℕ). next_at c.args.version b c.loop.left c.loop.rest.now) (sym c.deref.ensures.value) ∙ c.in-Ok.ensures in
     let takes = next_takes c.args.version c.loop.base.items c.loop.left c.loop.rest.now (read.step, read.first.items, read.rest.now) c.loop.invariant.fit next in
     let len = ap (λ (l : List ℕ). length l) takes.read.takes.parts ∙ length-append (step_text c.args.version c.loop.base.items read.step) read.rest.now in
     let pushed = simp c.if-is_err.ensures.negation at c.push.ensures.items in

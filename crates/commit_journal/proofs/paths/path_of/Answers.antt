@@ -11,20 +11,20 @@ pub returns-in_err-name_of : goal.returns-in_err-name_of
 returns-in_err-name_of c =
     let e : c.from_residual.result ≡ Err c.in_err-name_of.field-0.0 = search rules in
     rw e (part_refused c.args.text.now c.loop-name.names.items c.in-Some.name.now (components c.in-Some.later.now) c.in_err-name_of.field-0.0
-        (walk_part c.args.text.now c.loop-name.names.items c.loop-name.rest.now c.in-Some.name.now c.in-Some.later.now c.loop-name.invariant c.in-Some.ensures.0 c.in-Some.ensures.1)
-        c.in_err-name_of.ensures)
+    (walk_part c.args.text.now c.loop-name.names.items c.loop-name.rest.now c.in-Some.name.now c.in-Some.later.now c.loop-name.invariant c.in-Some.ensures.0 c.in-Some.ensures.1)
+    c.in_err-name_of.ensures)
 
 pub loop-name-preserved : goal.loop-name-preserved
 loop-name-preserved c =
     rw c.in_ok-push.ensures.items (walk_on c.args.text.now c.loop-name.names.items c.loop-name.rest.now c.in-Some.name.now c.in-Some.later.now c.in_ok-name_of.field-0
-        c.loop-name.invariant c.in-Some.ensures.0 c.in-Some.ensures.1 c.in_ok-name_of.ensures)
+    c.loop-name.invariant c.in-Some.ensures.0 c.in-Some.ensures.1 c.in_ok-name_of.ensures)
 
 pub returns-in_err-name_of-2 : goal.returns-in_err-name_of-2
 returns-in_err-name_of-2 c =
     let e : c.from_residual-in_err-name_of-2.result ≡ Err c.in_err-name_of-2.field-0.0 = search rules in
     rw e (part_refused c.args.text.now c.loop-name.names.items c.loop-name.rest.now [] c.in_err-name_of-2.field-0.0
-        (walk_last c.args.text.now c.loop-name.names.items c.loop-name.rest.now c.loop-name.invariant c.in_default.ensures)
-        c.in_err-name_of-2.ensures)
+    (walk_last c.args.text.now c.loop-name.names.items c.loop-name.rest.now c.loop-name.invariant c.in_default.ensures)
+    c.in_err-name_of-2.ensures)
 
 pub returns-in-Some-2 : goal.returns-in-Some-2
 returns-in-Some-2 c =
