@@ -1,18 +1,17 @@
 -- The grammar, as a relation, holds of just the texts.
-use Rattle.std.proofs.Common.{◌≡◌, ◌≢◌, ℕ, zero, suc, ◌+◌, ◌-◌, ◌^◌, ◌<◌, ◌≤◌, List, [], ◌∷◌, ◌++◌, length, drop, refl, sym, ap, subst, ◌∙◌, append_assoc, arith}
+use Rattle.std.proofs.Common.{◌≡◌, ℕ, ◌+◌, ◌-◌, List, [], ◌∷◌, ◌++◌, length, drop, refl, sym, ap, ◌∙◌, append_assoc, arith}
 use Rattle.std.specs.List.{AllByRecursion}
 use Rattle.std.proofs.lemmas.List.{append-nil}
 use Rattle.dired_text.specs.Paths.{Names, joined, path_bytes}
 use Rattle.commit_steps.specs.declared.step.Step.{Step}
 use Rattle.commit_steps.specs.declared.step.Step.TheVariants.{MakeDir, Rename, Mode}
-use Rattle.commit_steps.specs.Steps.{IsLawfulStep, HasPaths, first_path, step_bytes, all_bytes}
+use Rattle.commit_steps.specs.Steps.{first_path, step_bytes, all_bytes}
 use Rattle.commit_journal.specs.declared.version.Version.{Version}
 use Rattle.commit_journal.specs.declared.version.Version.TheVariants.{One, Two}
-use Rattle.commit_journal.specs.Grammar.{two_bytes, four_bytes, magic, max_all_bytes, IsPathText, IsStepText, AreStepTexts, IsWithin, AreSpelled, IsJournalOf}
-use Rattle.commit_journal.specs.Sharing.{shared_bytes, IsShared}
+use Rattle.commit_journal.specs.Grammar.{two_bytes, four_bytes, magic, IsPathText, IsStepText, AreStepTexts, IsJournalOf}
+use Rattle.commit_journal.specs.Sharing.{shared_bytes}
 use Rattle.commit_journal.specs.Spelling.{path_text, step_text, steps_text, journal_text, CanSpell}
 use Rattle.commit_journal.proofs.SharingLemmas.{shared_is, shared_one}
-use Rattle.commit_journal.proofs.TextLemmas.{all_push}
 
 -- ---- paths
 

@@ -1,7 +1,7 @@
 -- What is read as a journal is one, what is one is read, and a fault stands where reading stops.
-use Rattle.std.proofs.Common.{◌≡◌, ◌≢◌, ◌⊎◌, ℕ, zero, suc, ◌+◌, ◌-◌, ◌^◌, ◌<◌, ◌≤◌, Bool, true, false, cond, eqb, ltb, List, [], ◌∷◌, ◌++◌, length, take, drop, Option, Some, None, Result, Ok, Err, refl, sym, ap, subst, ◌∙◌, append_assoc, arith, inl, inr, nat_le, zero-add}
+use Rattle.std.proofs.Common.{◌≡◌, ◌≢◌, ◌⊎◌, ℕ, zero, suc, ◌+◌, ◌-◌, ◌^◌, ◌<◌, Bool, true, false, cond, eqb, ltb, List, [], ◌∷◌, ◌++◌, length, take, drop, Option, Some, None, Result, Ok, Err, refl, sym, ap, subst, ◌∙◌, append_assoc, arith, inl, inr, zero-add}
 use Rattle.std.specs.List.{AllByRecursion}
-use Rattle.std.specs.Int.{w32, byte_len, from_be_bytes}
+use Rattle.std.specs.Int.{w32, from_be_bytes}
 use Rattle.std.specs.Str.{bytes_eq}
 use Rattle.std.proofs.lemmas.Bool.{cases_Bool, eqb-true, ltb-true}
 use Rattle.std.proofs.lemmas.Bool.Decides.{nat_tests}
@@ -13,10 +13,10 @@ use Rattle.commit_steps.specs.declared.step.Step.{Step}
 use Rattle.commit_steps.specs.Steps.{IsLawfulStep, HasPaths, first_path, step_bytes, all_bytes}
 use Rattle.commit_journal.specs.declared.version.Version.{Version}
 use Rattle.commit_journal.specs.declared.version.Version.TheVariants.{One, Two}
-use Rattle.commit_journal.specs.Faults.{HasNoMagic, HasNoCount, CanRead, HasNoStep, StopsBehind, IsFault}
+use Rattle.commit_journal.specs.Faults.{HasNoMagic, CanRead, HasNoStep, IsFault}
 use Rattle.commit_journal.specs.Grammar.{four_bytes, magic, max_all_bytes, IsWithin, AreSpelled}
 use Rattle.commit_journal.specs.Spelling.{step_text, steps_text, journal_text, CanSpell}
-use Rattle.commit_journal.specs.Reading.{◌>>=◌, front_at, number_at, fits, next_at, with_front, or_stop, steps_at, magic_at, journal_at}
+use Rattle.commit_journal.specs.Reading.{front_at, number_at, fits, next_at, with_front, or_stop, steps_at, magic_at, journal_at}
 use Rattle.commit_journal.proofs.TextLemmas.{le_is, le_holds, all_push}
 use Rattle.commit_journal.proofs.ReadLemmas.{IsBytes, bind_some, Takes, wide32, number_takes, number_again, front_takes, front_again, rest_bytes}
 use Rattle.commit_journal.proofs.StepLemmas.{NextRead, next_takes, next_again}

@@ -1,6 +1,5 @@
 -- Laws of journals and of faults.
-use Rattle.std.proofs.Common.{◌≡◌, ℕ, ◌+◌, List, ◌++◌, length, Option, Some, Result, Ok, Err, sym, ap, subst, ◌∙◌, append_assoc, arith}
-use Rattle.std.specs.Result.{MatchResult}
+use Rattle.std.proofs.Common.{◌≡◌, ℕ, List, ◌++◌, length, Some, Result, Ok, Err, sym, ap, ◌∙◌, append_assoc, arith}
 use Rattle.std.proofs.lemmas.Option.{some_pair_parts}
 use Rattle.commit_steps.specs.declared.step.Step.{Step}
 use Rattle.commit_journal.specs.declared.version.Version.{Version}

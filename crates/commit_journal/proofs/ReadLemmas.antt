@@ -1,20 +1,20 @@
 -- What is read at the front of bytes stands there, and what stands there is read again.
-use Rattle.std.proofs.Common.{◌≡◌, ◌≢◌, ℕ, zero, suc, ◌+◌, ◌-◌, ◌^◌, ◌<◌, ◌≤◌, Bool, true, false, cond, eqb, ltb, ◌&&◌, nat_le, List, [], ◌∷◌, ◌++◌, length, get_or, take, drop, Option, Some, None, refl, sym, ap, subst, ◌∙◌, append_assoc, arith, inl, inr}
+use Rattle.std.proofs.Common.{◌≡◌, ◌≢◌, ℕ, ◌+◌, ◌-◌, ◌^◌, ◌<◌, ◌≤◌, Bool, true, false, cond, eqb, ltb, ◌&&◌, nat_le, List, [], ◌++◌, length, get_or, take, drop, Option, Some, None, refl, sym, ap, subst, ◌∙◌, append_assoc, arith, inl, inr}
 use Rattle.std.specs.Int.{Width, w16, w32, byte_len, from_be_bytes, to_be_bytes}
-use Rattle.std.proofs.lemmas.Bool.{cases_lt, cases_Bool, ltb-false, le-ltb, eqb-true}
+use Rattle.std.proofs.lemmas.Bool.{cases_lt, ltb-false, le-ltb, eqb-true}
 use Rattle.std.proofs.lemmas.Bool.Decides.{nat_tests}
 use Rattle.std.proofs.lemmas.List.{take_at, drop_at, take-append-drop, length-append, length-take, length-drop, get_or-drop, get_or-take, get_or_past}
 use Rattle.std.proofs.lemmas.Nat.{be_bytes_2, be_bytes_4, from_be_bytes-to_be_bytes_2, from_be_bytes-to_be_bytes_4}
-use Rattle.dired_text.specs.Paths.{Names, joined, path_bytes, max_path_bytes}
+use Rattle.dired_text.specs.Paths.{Names, joined, max_path_bytes}
 use Rattle.commit_steps.specs.Steps.{IsPath}
 use Rattle.commit_journal.specs.declared.version.Version.{Version}
 use Rattle.commit_journal.specs.declared.version.Version.TheVariants.{One, Two}
 use Rattle.commit_journal.specs.Grammar.{two_bytes, four_bytes}
-use Rattle.commit_journal.specs.Sharing.{shared_bytes, IsShared}
+use Rattle.commit_journal.specs.Sharing.{shared_bytes}
 use Rattle.commit_journal.specs.Spelling.{against, path_text}
 use Rattle.commit_journal.specs.Reading.{◌>>=◌, front_at, number_at, whole_at, shared_at, text_at, path_of, path_at}
 use Rattle.commit_journal.proofs.SharingLemmas.{shared_is}
-use Rattle.commit_journal.proofs.TextLemmas.{and_both, and_make, le_is, le_holds, path_holds, path_is, PathOf}
+use Rattle.commit_journal.proofs.TextLemmas.{and_both, and_make, le_holds, path_holds, path_is}
 
 abbrev pub IsBytes : List ℕ → Type 0
 IsBytes bytes = (i : ℕ) → get_or bytes i 0 < 256

@@ -1,21 +1,19 @@
 -- A step that is read stands there, and one that stands there is read again.
-use Rattle.std.proofs.Common.{◌≡◌, ◌≢◌, ℕ, zero, suc, ◌+◌, ◌-◌, ◌^◌, ◌<◌, ◌≤◌, Bool, true, false, cond, eqb, ◌&&◌, nat_le, List, [], ◌∷◌, ◌++◌, length, get_or, take, drop, Option, Some, None, refl, sym, ap, subst, ◌∙◌, append_assoc, arith, inl, inr, IsTrue}
+use Rattle.std.proofs.Common.{◌≡◌, ◌≢◌, ℕ, suc, ◌^◌, true, cond, eqb, ◌&&◌, List, [], ◌∷◌, ◌++◌, Some, None, refl, sym, ap, subst, ◌∙◌, append_assoc, arith, inl, inr}
 use Rattle.std.specs.Int.{w16}
 use Rattle.std.proofs.lemmas.Bool.{cases_Bool, eqb-true}
-use Rattle.std.proofs.lemmas.Bool.Decides.{nat_tests}
 use Rattle.dired_text.specs.Paths.{Names, joined}
 use Rattle.commit_steps.specs.declared.step.Step.{Step}
 use Rattle.commit_steps.specs.declared.step.Step.TheVariants.{MakeDir, Rename, Mode}
-use Rattle.commit_steps.specs.Steps.{IsOutside, IsStepPath, IsEntryPath, IsLawfulStep, HasPaths, first_path, step_bytes}
+use Rattle.commit_steps.specs.Steps.{IsOutside, IsStepPath, IsLawfulStep, HasPaths, first_path, step_bytes}
 use Rattle.commit_steps.specs.Tests.{is_lawful_step}
 use Rattle.commit_steps.proofs.LawfulLemmas.{lawful_is, lawful_holds}
 use Rattle.commit_journal.specs.declared.version.Version.{Version}
-use Rattle.commit_journal.specs.declared.version.Version.TheVariants.{One, Two}
 use Rattle.commit_journal.specs.Grammar.{two_bytes}
 use Rattle.commit_journal.specs.Spelling.{path_text, step_text}
 use Rattle.commit_journal.specs.Reading.{◌>>=◌, number_at, path_at, make_dir_at, rename_at, mode_at, step_at, fits, next_at}
-use Rattle.commit_journal.proofs.TextLemmas.{and_both, and_make, le_is, le_holds}
-use Rattle.commit_journal.proofs.ReadLemmas.{IsBytes, bind_some, test_some, some_is, Takes, Takes-then, wide16, number_takes, number_again, PathRead, path_takes, path_again}
+use Rattle.commit_journal.proofs.TextLemmas.{and_both}
+use Rattle.commit_journal.proofs.ReadLemmas.{IsBytes, bind_some, test_some, some_is, Takes, Takes-then, wide16, number_takes, number_again, path_takes, path_again}
 
 -- ---- paths of lawful steps are not the root
 

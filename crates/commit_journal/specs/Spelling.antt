@@ -1,7 +1,7 @@
 -- The one text of steps in each version.
-use Rattle.std.specs.Prelude.{◌≡◌, ℕ, ◌-◌, ◌<◌, ◌≤◌, ◌^◌, List, [], ◌∷◌, ◌++◌, length, drop}
+use Rattle.std.specs.Prelude.{ℕ, ◌-◌, ◌<◌, ◌≤◌, ◌^◌, List, [], ◌∷◌, ◌++◌, length, drop}
 use Rattle.std.specs.List.{AllByRecursion}
-use Rattle.dired_text.specs.Paths.{Names, joined, path_bytes}
+use Rattle.dired_text.specs.Paths.{Names, joined}
 use Rattle.commit_steps.specs.declared.step.Step.{Step}
 use Rattle.commit_steps.specs.declared.step.Step.TheVariants.{MakeDir, Rename, Mode}
 use Rattle.commit_steps.specs.Steps.{HasPaths, IsLawfulStep, first_path, all_bytes}

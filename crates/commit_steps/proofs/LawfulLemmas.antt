@@ -1,5 +1,5 @@
 -- The tests of steps hold of just the lawful ones.
-use Rattle.std.proofs.Common.{◌≡◌, ◌≢◌, ◌⊎◌, inl, inr, ℕ, zero, suc, ◌≤◌, ◌==◌, nat_le, Bool, true, false, ◌&&◌, ◌||◌, not, List, [], ◌∷◌, ◌++◌, Option, None, Some, codes, decimal, refl, sym, ap, ◌∙◌, arith}
+use Rattle.std.proofs.Common.{◌≡◌, ◌≢◌, ◌⊎◌, inl, inr, ℕ, ◌≤◌, ◌==◌, nat_le, Bool, true, false, ◌&&◌, ◌||◌, not, List, [], ◌∷◌, Option, None, Some, decimal, refl, sym, ap, ◌∙◌, arith}
 use Rattle.std.specs.Prelude.{is_none}
 use Rattle.std.specs.Str.{bytes_eq}
 use Rattle.std.proofs.lemmas.Bool.{cases_Bool}
@@ -9,7 +9,7 @@ use Rattle.dired_text.specs.Paths.{Names, rest_below}
 use Rattle.commit_steps.specs.declared.step.Step.{Step}
 use Rattle.commit_steps.specs.declared.step.Step.TheVariants.{MakeDir, Rename, Mode}
 use Rattle.commit_steps.specs.Numbers.{is_number, IsNumber}
-use Rattle.commit_steps.specs.Staging.{staging_name, staged, temporary, held, fresh_name, IsEntryName}
+use Rattle.commit_steps.specs.Staging.{staging_name, temporary, held, fresh_name, IsEntryName}
 use Rattle.commit_steps.specs.Steps.{IsOutside, IsEntryPath, IsStepPath, IsLawfulStep}
 use Rattle.commit_steps.specs.Tests.{is_letter, is_entry_name, is_outside, is_entry_path, is_step_path, are_apart, is_lawful_step}
 use Rattle.commit_steps.proofs.NumberLemmas.{and_both, and_make, number_is, number_holds}

@@ -1,11 +1,7 @@
 -- The bytes of names, and where paths stand.
-use Rattle.std.proofs.Common.{◌≡◌, ◌≢◌, ◌⊎◌, inl, inr, ℕ, ◌+◌, ◌<◌, ◌≤◌, Bool, true, false, not, IsTrue, List, [], ◌∷◌, ◌++◌, length, get_or, drop, refl, sym, ap, ◌∙◌, arith, length-append, ◌↔◌}
-use Rattle.std.specs.Str.{bytes_eq}
-use Rattle.std.proofs.lemmas.Slice.Eq.{bytes_eq-Decides}
+use Rattle.std.proofs.Common.{◌≡◌, ℕ, ◌+◌, ◌<◌, ◌≤◌, List, length, get_or, drop, ap, arith, length-append}
 use Rattle.std.proofs.lemmas.List.{at_drop_more, at_drop_all}
 use Rattle.dired_text.specs.Paths.{Names, slashed}
-use Rattle.commit_steps.specs.Staging.{staging_name, staged, IsEntryName}
-use Rattle.commit_steps.specs.Steps.{IsOutside, IsEntryPath}
 
 -- one name more, behind a slash
 pub slashed-at : (names : Names) (i : ℕ) (n : List ℕ) → i < length names → n ≡ get_or names i n → length (slashed (drop i names)) ≡ 1 + length n + length (slashed (drop (i + 1) names))

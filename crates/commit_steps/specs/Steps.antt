@@ -7,9 +7,8 @@ use Rattle.commit_steps.specs.declared.step.Step.{Step}
 use Rattle.commit_steps.specs.declared.step.Step.TheVariants.{MakeDir, Rename, Mode}
 use Rattle.commit_steps.specs.Staging.{staging_name, staged, IsEntryName}
 
--- ---- what each value of the type `Path` is
+-- ---- what each value of the types `Name` and `Path` is
 
--- the bytes of a name, which are UTF-8
 pub record IsName (n : List ℕ) : Type 0 where
   pub name : IsTrue (is_name n)
   pub utf8 : IsUtf8 n
@@ -18,7 +17,7 @@ pub record IsPath (p : Names) : Type 0 where
   pub names : AllByRecursion IsName p
   pub short : path_bytes p ≤ max_path_bytes
 
--- the paths of a step
+-- each path of the step is one
 abbrev pub HasPaths : Step → Type 0
 HasPaths (MakeDir p) = IsPath p
 HasPaths (Rename from to) = IsPath from × IsPath to

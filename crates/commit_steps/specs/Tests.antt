@@ -1,5 +1,5 @@
 -- The lawful steps, as tests.
-use Rattle.std.specs.Prelude.{ℕ, ◌==◌, Bool, true, false, ◌&&◌, ◌||◌, not, nat_le, List, [], ◌∷◌, is_none}
+use Rattle.std.specs.Prelude.{ℕ, ◌==◌, Bool, false, ◌&&◌, ◌||◌, not, nat_le, List, [], ◌∷◌, is_none}
 use Rattle.std.specs.Str.{bytes_eq}
 use Rattle.dired_text.specs.Paths.{Names, rest_below}
 use Rattle.commit_steps.specs.declared.step.Step.{Step}

@@ -1,4 +1,4 @@
-use Rattle.std.proofs.Common.{◌≡◌, ◌∙◌, ap, arith, length, ℕ, List, ◌^◌}
+use Rattle.std.proofs.Common.{◌∙◌, ap, arith, length, ℕ, List, ◌^◌}
 use Rattle.std.specs.Int.{w32, to_be_bytes}
 use Rattle.std.proofs.lemmas.List.{length-append}
 use Rattle.commit_journal.specs.Grammar.{magic}

@@ -1,10 +1,9 @@
-use Rattle.std.proofs.Common.{◌≡◌, ◌-◌, ◌+◌, ◌∷◌, ◌∙◌, ap, sym, arith, [], length, ℕ, List, Some, Ok}
+use Rattle.std.proofs.Common.{◌≡◌, ◌-◌, ◌∙◌, ap, sym, arith, [], length, ℕ, List, Some, Ok}
 use Rattle.std.proofs.lemmas.List.{length-append}
 use Rattle.commit_steps.specs.declared.step.Step.{Step}
 use Rattle.commit_steps.specs.Steps.{step_bytes}
-use Rattle.commit_journal.specs.declared.version.Version.{Version}
 use Rattle.commit_journal.specs.Grammar.{max_all_bytes}
-use Rattle.commit_journal.specs.Reading.{steps_at, with_front, next_at, Fails}
+use Rattle.commit_journal.specs.Reading.{steps_at, next_at, Fails}
 use Rattle.commit_journal.specs.Spelling.{step_text}
 use Rattle.commit_journal.proofs.StepLemmas.{next_takes}
 use Rattle.commit_journal.proofs.LoopLemmas.{starts, goes_on, stops, more_stands, is_done}

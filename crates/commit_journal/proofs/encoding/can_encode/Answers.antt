@@ -1,6 +1,5 @@
-use Rattle.std.proofs.Common.{◌≡◌, ◌∙◌, sym, ap, subst, arith}
+use Rattle.std.proofs.Common.{◌∙◌, sym, subst, arith}
 use Rattle.std.proofs.lemmas.Bool.{false≢true}
-use Rattle.commit_steps.specs.Steps.{step_bytes}
 use Rattle.commit_journal.specs.Spelling.{CanEncode}
 use Rattle.commit_journal.proofs.TextLemmas.{le_is, le_holds}
 use Rattle.commit_journal.proofs.WriteLemmas.{nothing_tried, one_tried, all_tried, tried_here}

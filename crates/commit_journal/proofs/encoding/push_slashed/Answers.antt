@@ -1,8 +1,6 @@
 use Rattle.std.proofs.Common.{◌≡◌, ◌++◌, ◌∷◌, [], ℕ, List, sym, ap, ◌∙◌, subst, ◌+◌, take}
-use Rattle.std.specs.List.{AllByRecursion}
 use Rattle.std.specs.Str.{IsUtf8}
 use Rattle.std.proofs.lemmas.List.{take_more}
-use Rattle.dired_text.specs.Paths.{Names}
 use Rattle.commit_steps.specs.Steps.{IsName}
 use Rattle.commit_journal.proofs.TextLemmas.{all_push, name_written}
 use Rattle.commit_journal.proofs.encoding.push_slashed.Goals as goal

@@ -1,4 +1,4 @@
-use Rattle.std.proofs.Common.{◌≡◌, List, ℕ, Some, sym, ap, ◌∙◌, subst, IsTrue}
+use Rattle.std.proofs.Common.{List, ℕ, Some, sym, ap, ◌∙◌, subst, IsTrue}
 use Rattle.dired_text.specs.Paths.{is_name}
 use Rattle.commit_journal.proofs.TextLemmas.{name_refused, name_taken, some_named}
 use Rattle.commit_journal.proofs.paths.name_of.Goals as goal

@@ -1,4 +1,4 @@
-use Rattle.std.proofs.Common.{◌≡◌, ◌∷◌, [], ◌++◌, List, ℕ, Err, Some, sym, ap, ◌∙◌, rules, arith}
+use Rattle.std.proofs.Common.{◌≡◌, [], Err, Some, sym, ap, ◌∙◌, rules, arith}
 use Rattle.dired_text.specs.Paths.{Names}
 use Rattle.dired_text.specs.Resolve.{components}
 use Rattle.commit_journal.proofs.TextLemmas.{too_long, part_refused, walk_part, walk_on, walk_last, walk_ends, some_named, none_some}

@@ -1,5 +1,4 @@
-use Rattle.std.proofs.Common.{ap, sym, ◌∙◌, arith, length}
-use Rattle.dired_text.specs.Paths.{slashed}
+use Rattle.std.proofs.Common.{ap, arith, length}
 use Rattle.commit_steps.proofs.StepLemmas.{slashed-at, slashed-all}
 use Rattle.commit_steps.proofs.path_sizes.slashed_bytes.Goals as goal
 
