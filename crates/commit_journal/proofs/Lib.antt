@@ -1,0 +1,9 @@
+pub mod GrammarLemmas
+pub mod JournalLemmas
+pub mod LawLemmas
+pub mod LoopLemmas
+pub mod ReadLemmas
+pub mod SharingLemmas
+pub mod StepLemmas
+pub mod TextLemmas
+pub mod WriteLemmas

@@ -1,0 +1,4 @@
+pub mod Numbers
+pub mod Staging
+pub mod Steps
+pub mod Tests
