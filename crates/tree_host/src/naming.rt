@@ -2,30 +2,71 @@
 ghost use Rattle.std.specs.Prelude.{IfOk};
 ghost use Rattle.tree_core.specs.Fields.{RiseStrictly};
 
-use crate::looking::{dir_text, kind_of, look_at};
-use crate::reading::read_all;
+use crate::looking::{Found, Looks, kind_of, look_at};
+use crate::reading::{read_all, read_some};
 use dired_text::Name;
 use std::alloc::Global;
 use std::collections::BTreeSet;
 use std::rt::Files;
 use tree_core::LookEnd;
 
+// How many bytes of names are read at once to see whether there is one. The host gives no less than a whole name.
+const FIRST_NAMES: usize = 4096;
+
 /// The names of the files, directories and links in a directory, in the order of their bytes. Pipes, sockets and devices are left
 /// out. It fails where a name isn't UTF-8, and where the host gives a name twice.
-pub fn names_at<R: Files>(rt: &R, alloc: Global, names: &[Name]) -> Result<Vec<Name>, LookEnd>
+pub fn names_at<R: Files>(
+    rt: &R,
+    looks: &mut Looks,
+    alloc: Global,
+    names: &[Name],
+) -> Result<Vec<Name>, LookEnd>
     ensures { IfOk result (λ found. RiseStrictly found.items) }
 {
-    let dir = dir_text(rt, alloc, names)?;
-    let listed = read_dir(rt, alloc, dir.as_str())?;
-    in_order(alloc, listed_names(rt, alloc, dir.as_str(), &listed)?)
+    let dir = dir_at(rt, looks, alloc, names)?;
+    let listed = read_dir(rt, alloc, dir.text.as_str())?;
+    in_order(
+        alloc,
+        listed_names(rt, alloc, dir.text.as_str(), &listed)?,
+    )
 }
 
 /// Whether a directory has no entries. A pipe, a socket or a device counts as one, since the host removes no directory that has
-/// any.
-pub fn is_empty_at<R: Files>(rt: &R, alloc: Global, names: &[Name]) -> Result<bool, LookEnd> {
-    let dir = dir_text(rt, alloc, names)?;
-    let listed = read_dir(rt, alloc, dir.as_str())?;
-    Ok(!listed.split(|b| *b == 0).any(is_entry))
+/// any. It reads no further than the first.
+pub fn is_empty_at<R: Files>(
+    rt: &R,
+    looks: &mut Looks,
+    alloc: Global,
+    names: &[Name],
+) -> Result<bool, LookEnd> {
+    let dir = dir_at(rt, looks, alloc, names)?;
+    let Ok(mut listed) = rt.open_dir(dir.text.as_str()) else {
+        return Err(LookEnd::Failed);
+    };
+    let mut room = vec![in alloc; 0; FIRST_NAMES]?;
+    for _ in 0..u64::MAX {
+        let count = read_some(&mut listed, &mut room)?;
+        if count == 0 {
+            return Ok(true);
+        }
+        if room[..count].split(|b| *b == 0).any(is_entry) {
+            return Ok(false);
+        }
+    }
+    Err(LookEnd::Failed)
+}
+
+// The directory at a path. It fails where none stands.
+fn dir_at<R: Files>(
+    rt: &R,
+    looks: &mut Looks,
+    alloc: Global,
+    names: &[Name],
+) -> Result<Found, LookEnd> {
+    match looks.look(rt, alloc, names)? {
+        Some(found) if found.data.is_dir() => Ok(found),
+        _ => Err(LookEnd::Failed),
+    }
 }
 
 // The names in a directory as the host gives them, each ended by a NUL.

@@ -3,12 +3,13 @@
 ghost use Rattle.std.specs.Prelude.{IfOk, IsTrue};
 ghost use Rattle.tree_core.specs.Fields.{IsOwner};
 
-use dired_text::{Memory, Text};
+use crate::children::owners_of;
+use dired_text::{Memory, Name, Text};
 use std::alloc::Global;
 use std::collections::BTreeMap;
 use std::fs::Metadata;
 use std::os::unix::fs::MetadataExt;
-use std::process::{Command, Processes, Stdio};
+use std::process::Processes;
 use tree_core::LookEnd;
 
 // The most bytes of a name that is shown.
@@ -52,14 +53,14 @@ impl Owners {
         &mut self,
         rt: &R,
         alloc: Global,
-        text: &str,
+        names: &[Name],
         data: &Metadata,
     ) -> Result<Shown, LookEnd> {
         let numbers = (data.uid(), data.gid());
         if let Some(shown) = self.known.get(&numbers) {
             return Ok(shown.copy()?);
         }
-        let answer = ask(rt, alloc, text)?;
+        let answer = owners_of(rt, alloc, names)?;
         let shown = read_answer(alloc, &answer, numbers)?;
         let copy = shown.copy()?;
         self.known.insert(numbers, shown)?;
@@ -67,31 +68,38 @@ impl Owners {
     }
 }
 
-// What `stat` writes: the names of owner and group, each ended by a NUL. It is started in the directory above, since `./` and a
-// path of 4,095 bytes would be too long for the host.
-fn ask<R: Processes>(rt: &R, alloc: Global, text: &str) -> Result<Vec<u8>, LookEnd> {
-    let (dir, name) = text.rsplit_once('/').unwrap_or((".", text));
-    let mut command = Command::new(alloc, "stat")?;
-    command.arg("--printf")?.arg("%U\\0%G\\0")?.arg("--")?;
-    command.arg(format!(in alloc; "./{name}")?.as_str())?;
-    command.current_dir(dir)?;
-    command.stdin(Stdio::null());
-    command.stderr(Stdio::null());
-    match command.output(rt) {
-        Ok(output) if output.status.success() => Ok(output.stdout),
+// The owner and the group that `stat` wrote: the number and the name of each, each ended by a NUL. It fails where these are the
+// names of other numbers, as where another program has just changed the owner.
+fn read_answer(alloc: Global, answer: &[u8], numbers: (u32, u32)) -> Result<Shown, LookEnd> {
+    let mut pieces = answer.split(|b| *b == 0);
+    Ok(Shown {
+        owner: next_name(alloc, pieces.next(), pieces.next(), numbers.0)?,
+        group: next_name(alloc, pieces.next(), pieces.next(), numbers.1)?,
+    })
+}
+
+// The name that stands behind its number.
+fn next_name(
+    alloc: Global,
+    number_piece: Option<&[u8]>,
+    name: Option<&[u8]>,
+    number: u32,
+) -> Result<Text, LookEnd>
+    ensures { IfOk result (λ shown. IsOwner shown) }
+{
+    match (number_piece, name) {
+        (Some(piece), Some(name)) if is_number(piece, number) => {
+            Ok(name_or_number(alloc, name, number)?)
+        }
         _ => Err(LookEnd::Failed),
     }
 }
 
-// The owner and the group that `stat` wrote. It fails where these aren't two texts, each ended by a NUL.
-fn read_answer(alloc: Global, answer: &[u8], numbers: (u32, u32)) -> Result<Shown, LookEnd> {
-    let mut pieces = answer.split(|b| *b == 0);
-    match (pieces.next(), pieces.next(), pieces.next()) {
-        (Some(owner), Some(group), Some(_)) => Ok(Shown {
-            owner: name_or_number(alloc, owner, numbers.0)?,
-            group: name_or_number(alloc, group, numbers.1)?,
-        }),
-        _ => Err(LookEnd::Failed),
+// Whether the bytes are this number.
+fn is_number(bytes: &[u8], number: u32) -> bool {
+    match str::from_utf8(bytes) {
+        Ok(text) => text.parse::<u32>() == Ok(number),
+        Err(_) => false,
     }
 }
 

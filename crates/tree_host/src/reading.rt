@@ -32,8 +32,8 @@ pub fn read_all<S: Read>(
     Err(LookEnd::Failed)
 }
 
-// The next bytes of a source, at most as many as there is room for.
-fn read_some<S: Read>(source: &mut S, room: &mut [u8]) -> Result<usize, LookEnd>
+/// The next bytes of a source, at most as many as there is room for.
+pub fn read_some<S: Read>(source: &mut S, room: &mut [u8]) -> Result<usize, LookEnd>
     ensures { ReadsAtMost result room.new }
 {
     for _ in 0..u64::MAX {
