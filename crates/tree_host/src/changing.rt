@@ -3,11 +3,10 @@ ghost use Rattle.std.specs.Prelude.{◌≡◌, OnOk};
 ghost use Rattle.dired_text.specs.Paths.{parent};
 ghost use Rattle.tree_host.specs.Notes.{IsNoted, KeepsNotes};
 
-use crate::describing::is_target;
 use crate::doing;
-use crate::looking::{has_mode, kind_of, mode_of};
 use crate::work::Work;
 use dired_text::{Path, rest_below};
+use host_looks::{has_mode, is_target, kind_of, mode_of};
 use std::process::Processes;
 use std::rt::Files;
 use tree_core::LookEnd;
@@ -37,7 +36,8 @@ impl<R: Files + Processes + AllocGlobal + Drop> Work<R> {
         if !self.is_free(path)? {
             return Err(LookEnd::Failed);
         }
-        self.touched.note_parent(self.rt.alloc(), path);
+        let alloc = self.rt.alloc();
+        self.touched.note_parent(alloc, path);
         Ok(())
     }
 

@@ -4,9 +4,9 @@ ghost use Rattle.dired_text.specs.Paths.{parent};
 ghost use Rattle.tree_core.specs.FileTree.{moved as place_after};
 ghost use Rattle.tree_host.specs.Notes.{IsNoted};
 
-use crate::looking::{Found, is_same, mode_of};
 use crate::touched::Touched;
 use dired_text::Path;
+use host_looks::{Found, is_same, mode_of};
 use std::alloc::Global;
 use std::fs::{self, DirBuilder, OpenFile, OpenOptions, Permissions};
 use std::io::{self, Write};

@@ -2,20 +2,10 @@
 #![tactic(auto)]
 
 mod changing;
-mod children;
-mod commands;
-mod describing;
 mod doing;
-mod file_systems;
-mod host_paths;
 mod host_shelf;
 mod host_sink;
 mod host_tree;
-mod looking;
-mod naming;
-mod numbering;
-mod owners;
-mod reading;
 mod syncing;
 #[cfg(test)]
 mod tests;

@@ -1,10 +1,9 @@
 // Making what was touched durable.
-use crate::children;
-use crate::looking::{Found, Looks, has_mode, is_same};
 use dired_text::{Name, Path};
+use host_looks::{Found, Looks, has_mode, open_found, sync_host, sync_root, sync_system};
 use std::alloc::Global;
 use std::collections::BTreeSet;
-use std::fs::{self, OpenFile};
+use std::fs::OpenFile;
 use std::os::unix::fs::MetadataExt;
 use std::process::Processes;
 use std::rt::Files;
@@ -82,16 +81,6 @@ fn sync_found<R: Files + Processes>(
     }
 }
 
-/// What was found, opened for reading, where the host lets it be opened and it is still the same: the host would follow a link that
-/// took its place.
-pub fn open_found<R: Files>(rt: &R, found: &Found) -> Option<R::File> {
-    let file = fs::open(rt, found.text.as_str()).ok()?;
-    match file.metadata() {
-        Ok(data) if is_same(&data, &found.data) => Some(file),
-        _ => None,
-    }
-}
-
 /// Syncs the whole file system of the root, and each other one that was met. One on which nothing can be opened any more is
 /// written with all of the host's.
 pub fn sync_systems<R: Files + Processes>(
@@ -100,7 +89,7 @@ pub fn sync_systems<R: Files + Processes>(
     alloc: Global,
 ) -> Result<(), LookEnd> {
     looks.systems.is_root_synced_by_directories(rt, alloc)?;
-    children::sync_root(rt, alloc)?;
+    sync_root(rt, alloc)?;
     let mut is_left = !looks.systems.are_known();
     for path in &looks.systems.others(alloc)? {
         if sync_system_at(rt, looks, alloc, path.names())? == Written::Left {
@@ -108,7 +97,7 @@ pub fn sync_systems<R: Files + Processes>(
         }
     }
     if is_left {
-        children::sync_host(rt, alloc)?;
+        sync_host(rt, alloc)?;
     }
     Ok(())
 }
@@ -129,7 +118,7 @@ fn sync_system_at<R: Files + Processes>(
             if open_found(rt, &found).is_none() {
                 return Ok(Written::Left);
             }
-            children::sync_system(rt, alloc, names)?;
+            sync_system(rt, alloc, names)?;
             Ok(Written::Done)
         }
         Ok(_) => match names.split_last() {

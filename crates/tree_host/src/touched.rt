@@ -1,11 +1,12 @@
 // What was touched since the last sync.
-ghost use Rattle.std.specs.Prelude.{◌≡◌, ◌≤◌, ◌+◌, ◌++◌, true, false, All, IfOk, IfSome, OnOk};
+ghost use Rattle.std.specs.Prelude.{◌≡◌, ◌≤◌, ◌+◌, true, false, All, IfOk, IfSome, OnOk};
 ghost use Rattle.std.specs.BTreeSet.{IsEmpty, btree_set_len};
 ghost use Rattle.dired_text.specs.Paths.{parent};
 ghost use Rattle.tree_core.specs.FileTree.{moved as place_after};
 ghost use Rattle.tree_host.specs.Notes.{IsNoted, KeepsNotes, most_notes};
 
-use dired_text::{Memory, Name, Path, rest_below};
+use dired_text::{Memory, Path};
+use host_looks::moved_path;
 use std::alloc::Global;
 use std::collections::BTreeSet;
 use std::mem;
@@ -105,21 +106,6 @@ impl Touched {
     }
 }
 
-/// Where what stood at a path stands behind a rename of `from` to `to`, or None where that would be too long for a path.
-pub fn moved_path(
-    alloc: Global,
-    path: &Path,
-    from: &Path,
-    to: &Path,
-) -> Result<Option<Path>, Memory>
-    ensures { IfOk result (λ found. IfSome found (λ p. p ≡ place_after from.now to.now path.now)) }
-{
-    match rest_below(from.names(), path.names()) {
-        None => Ok(Some(path.copy()?)),
-        Some(rest) => joined(alloc, to, rest),
-    }
-}
-
 // The path of the directory above, or the root for itself.
 fn parent_of(alloc: Global, path: &Path) -> Result<Option<Path>, Memory>
     ensures { IfOk result (λ found. IfSome found (λ p. p ≡ parent path.now)) }
@@ -128,23 +114,4 @@ fn parent_of(alloc: Global, path: &Path) -> Result<Option<Path>, Memory>
         Some((_, above)) => Path::join(alloc, above),
         None => Ok(Some(Path::root(alloc))),
     }
-}
-
-// The path of these names below a directory, or None where it would be too long.
-fn joined(alloc: Global, dir: &Path, rest: &[Name]) -> Result<Option<Path>, Memory>
-    ensures { IfOk result (λ found. IfSome found (λ p. p ≡ dir.now ++ rest.now)) }
-{
-    let mut names = Vec::new(alloc);
-    push_copies(&mut names, dir.names())?;
-    push_copies(&mut names, rest)?;
-    Path::join(alloc, &names)
-}
-
-fn push_copies(names: &mut Vec<Name>, more: &[Name]) -> Result<(), Memory>
-    ensures { OnOk result (names.new.items ≡ names.old.items ++ more.now) }
-{
-    for name in more {
-        names.push(name.copy()?)?;
-    }
-    Ok(())
 }

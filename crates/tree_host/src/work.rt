@@ -4,15 +4,13 @@ ghost use Rattle.std.specs.BTreeSet.{IsEmpty};
 ghost use Rattle.tree_core.specs.FileTree.{IsMode};
 ghost use Rattle.tree_core.specs.Fields.{IsMeta, RiseStrictly};
 
-use crate::describing::{Known, meta_at};
-use crate::looking::{Found, Looks, has_mode, kind_of, mode_of};
-use crate::naming::{is_empty_at, names_at};
-use crate::numbering::FileNumbers;
-use crate::owners::Owners;
-use crate::reading::read_all;
-use crate::syncing::{Written, open_found, sync_each, sync_systems};
+use crate::syncing::{Written, sync_each, sync_systems};
 use crate::touched::Touched;
 use dired_text::{Name, Path};
+use host_looks::{
+    Found, Known, Looks, has_mode, is_empty_at, kind_of, meta_at, mode_of, names_at, open_found,
+    read_all,
+};
 use std::alloc::Global;
 use std::process::Processes;
 use std::rt::Files;
@@ -38,10 +36,7 @@ impl<R: Files + Processes + AllocGlobal + Drop> Work<R> {
         let alloc = rt.alloc();
         Ok(Work {
             looks: Looks::open(&rt, alloc)?,
-            known: Known {
-                owners: Owners::new(alloc),
-                numbers: FileNumbers::new(alloc),
-            },
+            known: Known::new(alloc),
             touched: Touched::everything(alloc),
             broken: false,
             rt,

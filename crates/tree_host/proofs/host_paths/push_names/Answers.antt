@@ -1,7 +1,0 @@
-use Rattle.std.proofs.lemmas.Grind.{common_steps}
-use Rattle.std.proofs.Common.{arith}
-use Rattle.dired_text.proofs.PathLemmas.{slashed-push}
-use Rattle.tree_host.proofs.host_paths.push_names.Goals as goal
-
-pub loop-name-preserved : goal.loop-name-preserved
-loop-name-preserved c = grind (arith, common_steps, slashed-push)
