@@ -1,8 +1,8 @@
 // Named inputs of the host. They tell nothing of what they contain.
 ghost use Rattle.std.specs.Prelude.{◌≡◌, ◌≤◌, IfOk, vec_len};
 
-use crate::reading::read_all;
 use dired_text::{Bytes, Shelf, ShelfEnd};
+use host_looks::read_all;
 use std::alloc::Global;
 use std::fs;
 use std::io::{ErrorKind, Read};

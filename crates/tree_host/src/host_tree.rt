@@ -3,35 +3,34 @@ ghost use Rattle.std.specs.Prelude.{◌≡◌, IfOk, None};
 ghost use Rattle.tree_core.specs.FileTree.{root_tree};
 ghost use Rattle.tree_core.specs.History.{Began};
 
-use crate::describing::meta_at;
-use crate::looking::{kind_at, mode_at};
-use crate::moving::{rename_at, sync_all};
-use crate::naming::{is_empty_at, names_at};
-use crate::owners::Owners;
-use dired_text::{Failed, Name, Path};
+use crate::work::Work;
+use dired_text::{Bytes, Failed, Name, Path};
 use std::alloc::Global;
 use std::process::Processes;
 use std::rt::Files;
-use tree_core::{CallName, Faults, Kind, LookEnd, Meta, Tree};
+use tree_core::{CallName, Faults, Kind, LookEnd, Meta, ReadEnd, Tree};
 
 /// The tree below the working directory. No call follows a link, in the middle of a path either. A call fails where its condition
 /// isn't met, where the host refuses (also for want of memory), and where the host gives names, targets or modes that no tree has.
+/// The first `sync` makes durable what anybody wrote, each later one what was touched since the last. Where one has failed, all
+/// later ones do.
 #[derive(Drop)]
 pub struct HostTree<R: Files + Processes + AllocGlobal + Drop> {
-    rt: R,
-    owners: Owners,
+    work: Work<R>,
     faults: Faults,
 }
 
 impl<R: Files + Processes + AllocGlobal + Drop> HostTree<R> {
-    /// Takes the working directory as root, with nothing pending.
+    /// Takes the working directory as root. It starts no program and syncs nothing.
+    ///
+    /// # Errors
+    /// `Failed` where the working directory can't be looked at or opened for reading.
     pub fn open(rt: R) -> Result<Self, Failed>
         ensures { IfOk result (λ tree. tree.faults ≡ record { count = 0; last = None; last_before = None }) }
     {
-        match sync_all(&rt, rt.alloc()) {
-            Ok(()) => Ok(HostTree {
-                owners: Owners::new(rt.alloc()),
-                rt,
+        match Work::open(rt) {
+            Ok(work) => Ok(HostTree {
+                work,
                 faults: Faults::new(),
             }),
             Err(_) => Err(Failed),
@@ -59,8 +58,8 @@ impl<R: Files + Processes + AllocGlobal + Drop> Tree for HostTree<R> {
     ghost fields_show = { λ t no_way. absurd no_way };
 
     fn kind(&mut self, path: &Path) -> Result<Option<Kind>, Failed> {
-        match kind_at(&self.rt, self.rt.alloc(), path.names()) {
-            Ok(kind) => Ok(kind),
+        match self.work.kind(path) {
+            Ok(answer) => Ok(answer),
             Err(_) => {
                 self.faults.note(CallName::Kind);
                 Err(Failed)
@@ -69,8 +68,8 @@ impl<R: Files + Processes + AllocGlobal + Drop> Tree for HostTree<R> {
     }
 
     fn mode(&mut self, path: &Path) -> Result<u16, Failed> {
-        match mode_at(&self.rt, self.rt.alloc(), path.names()) {
-            Ok(mode) => Ok(mode),
+        match self.work.mode(path) {
+            Ok(answer) => Ok(answer),
             Err(_) => {
                 self.faults.note(CallName::Mode);
                 Err(Failed)
@@ -79,8 +78,8 @@ impl<R: Files + Processes + AllocGlobal + Drop> Tree for HostTree<R> {
     }
 
     fn is_empty(&mut self, path: &Path) -> Result<bool, Failed> {
-        match is_empty_at(&self.rt, self.rt.alloc(), path.names()) {
-            Ok(empty) => Ok(empty),
+        match self.work.is_empty(path) {
+            Ok(answer) => Ok(answer),
             Err(_) => {
                 self.faults.note(CallName::IsEmpty);
                 Err(Failed)
@@ -89,8 +88,8 @@ impl<R: Files + Processes + AllocGlobal + Drop> Tree for HostTree<R> {
     }
 
     fn meta(&mut self, alloc: Global, path: &Path) -> Result<Meta, LookEnd> {
-        match meta_at(&self.rt, &mut self.owners, alloc, path.names()) {
-            Ok(meta) => Ok(meta),
+        match self.work.meta(alloc, path) {
+            Ok(answer) => Ok(answer),
             Err(LookEnd::Memory) => Err(LookEnd::Memory),
             Err(LookEnd::Failed) => {
                 self.faults.note(CallName::Meta);
@@ -100,8 +99,8 @@ impl<R: Files + Processes + AllocGlobal + Drop> Tree for HostTree<R> {
     }
 
     fn names(&mut self, alloc: Global, path: &Path) -> Result<Vec<Name>, LookEnd> {
-        match names_at(&self.rt, alloc, path.names()) {
-            Ok(names) => Ok(names),
+        match self.work.names(alloc, path) {
+            Ok(answer) => Ok(answer),
             Err(LookEnd::Memory) => Err(LookEnd::Memory),
             Err(LookEnd::Failed) => {
                 self.faults.note(CallName::Names);
@@ -110,8 +109,60 @@ impl<R: Files + Processes + AllocGlobal + Drop> Tree for HostTree<R> {
         }
     }
 
+    fn read(&mut self, alloc: Global, path: &Path, limit: u64) -> Result<Bytes, ReadEnd> {
+        match self.work.read(alloc, path, limit) {
+            Ok(Some(bytes)) => Ok(Bytes::from_vec(bytes)),
+            Ok(None) => Err(ReadEnd::TooLarge),
+            Err(LookEnd::Memory) => Err(ReadEnd::Memory),
+            Err(LookEnd::Failed) => {
+                self.faults.note(CallName::Read);
+                Err(ReadEnd::Failed)
+            }
+        }
+    }
+
+    fn make_dir(&mut self, path: &Path, mode: u16) -> Result<(), Failed> {
+        match self.work.make_dir(path, mode) {
+            Ok(()) => Ok(()),
+            Err(_) => {
+                self.faults.note(CallName::MakeDir);
+                Err(Failed)
+            }
+        }
+    }
+
+    fn make_link(&mut self, path: &Path, target: &str) -> Result<(), Failed> {
+        match self.work.make_link(path, target) {
+            Ok(()) => Ok(()),
+            Err(_) => {
+                self.faults.note(CallName::MakeLink);
+                Err(Failed)
+            }
+        }
+    }
+
+    fn make_hard(&mut self, path: &Path, old: &Path) -> Result<(), Failed> {
+        match self.work.make_hard(path, old) {
+            Ok(()) => Ok(()),
+            Err(_) => {
+                self.faults.note(CallName::MakeHard);
+                Err(Failed)
+            }
+        }
+    }
+
+    fn write_file(&mut self, path: &Path, bytes: &[u8], mode: u16) -> Result<(), Failed> {
+        match self.work.write_file(path, bytes, mode) {
+            Ok(()) => Ok(()),
+            Err(_) => {
+                self.faults.note(CallName::WriteFile);
+                Err(Failed)
+            }
+        }
+    }
+
     fn rename(&mut self, from: &Path, to: &Path) -> Result<(), Failed> {
-        match rename_at(&self.rt, self.rt.alloc(), from, to) {
+        match self.work.rename(from, to) {
             Ok(()) => Ok(()),
             Err(_) => {
                 self.faults.note(CallName::Rename);
@@ -120,8 +171,38 @@ impl<R: Files + Processes + AllocGlobal + Drop> Tree for HostTree<R> {
         }
     }
 
+    fn set_mode(&mut self, path: &Path, mode: u16) -> Result<(), Failed> {
+        match self.work.set_mode(path, mode) {
+            Ok(()) => Ok(()),
+            Err(_) => {
+                self.faults.note(CallName::SetMode);
+                Err(Failed)
+            }
+        }
+    }
+
+    fn remove(&mut self, path: &Path) -> Result<(), Failed> {
+        match self.work.remove(path) {
+            Ok(()) => Ok(()),
+            Err(_) => {
+                self.faults.note(CallName::Remove);
+                Err(Failed)
+            }
+        }
+    }
+
+    fn remove_dir(&mut self, path: &Path) -> Result<(), Failed> {
+        match self.work.remove_dir(path) {
+            Ok(()) => Ok(()),
+            Err(_) => {
+                self.faults.note(CallName::RemoveDir);
+                Err(Failed)
+            }
+        }
+    }
+
     fn sync(&mut self) -> Result<(), Failed> {
-        match sync_all(&self.rt, self.rt.alloc()) {
+        match self.work.sync() {
             Ok(()) => Ok(()),
             Err(_) => {
                 self.faults.note(CallName::Sync);

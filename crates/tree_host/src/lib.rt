@@ -1,17 +1,16 @@
 //! The tree, the inputs and the output of the host. What they tell is nothing, so their content is trusted and not proved.
 #![tactic(auto)]
 
-mod describing;
+mod changing;
+mod doing;
 mod host_shelf;
 mod host_sink;
 mod host_tree;
-mod looking;
-mod moving;
-mod naming;
-mod owners;
-mod reading;
+mod syncing;
 #[cfg(test)]
 mod tests;
+mod touched;
+mod work;
 
 pub use host_shelf::FileShelf;
 pub use host_sink::OutSink;
