@@ -11,12 +11,12 @@ use Rattle.tree_core.specs.declared.faults.Faults.{Faults}
 use Rattle.tree_core.specs.FileTree.{FileTree, IsTree}
 use Rattle.tree_core.specs.Faults.{TreeHeld}
 use Rattle.wdired_buffer.specs.Edits.{Asks}
-use Rattle.edit_check.specs.declared.row.Row.{Row}
-use Rattle.edit_check.specs.Counting.{counts_of}
-use Rattle.edit_check.specs.Rows.{rows, edit_row}
-use Rattle.edit_check.specs.Sight.{Sight, sight_of}
-use Rattle.edit_check.specs.WellFormed.{IsEdit, max_changes}
-use Rattle.edit_check.proofs.WellFormedLemmas.{taken_alone}
+use Rattle.edit_words.specs.declared.row.Row.{Row}
+use Rattle.edit_words.specs.Counting.{counts_of}
+use Rattle.edit_words.specs.Rows.{rows, edit_row}
+use Rattle.edit_words.specs.Sight.{Sight, sight_of}
+use Rattle.edit_words.specs.WellFormed.{IsEdit, max_changes}
+use Rattle.edit_words.proofs.WellFormedLemmas.{taken_alone}
 use Rattle.edit_requests.proofs.RequestLemmas.{can_be_asked}
 use Rattle.dired_cli.specs.declared.status.Counted.TheVariants.{Edits as ManyEdits}
 use Rattle.dired_cli.specs.declared.status.Status.{Status}

@@ -8,7 +8,7 @@ use Rattle.wdired_buffer.specs.declared.faults.EditsFault.TheVariants as edits
 use Rattle.wdired_buffer.specs.declared.line.BufferLine.{BufferLine}
 use Rattle.wdired_buffer.specs.Buffer.{buffer_of}
 use Rattle.wdired_buffer.specs.Edits.{Asks, edits_of}
-use Rattle.edit_check.specs.WellFormed.{max_changes}
+use Rattle.edit_words.specs.WellFormed.{max_changes}
 use Rattle.dired_cli.specs.declared.requests.Request.{Request}
 use Rattle.dired_cli.specs.declared.status.Counted.TheVariants.{BufferLines, Edits}
 use Rattle.dired_cli.specs.declared.status.Status.{Status}

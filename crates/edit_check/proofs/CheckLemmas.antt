@@ -5,18 +5,18 @@ use Rattle.tree_core.specs.declared.node.CallName.{CallName}
 use Rattle.tree_core.specs.declared.faults.Faults.{Faults}
 use Rattle.tree_core.specs.declared.changes.Confirmed.{Confirmed}
 use Rattle.tree_core.specs.FileTree.{FileTree, IsTree}
-use Rattle.edit_check.specs.declared.row.Row.{Row}
-use Rattle.edit_check.specs.declared.findings.Findings.{Findings}
-use Rattle.edit_check.specs.declared.fault.CheckFault.{CheckFault}
-use Rattle.edit_check.specs.declared.fault.CheckFault.TheVariants as fault
-use Rattle.edit_check.specs.Found.{sight_in, HasFindings, IsCovered, IsFreeOr, IsLookAt, FaultsBy, failed_call}
+use Rattle.edit_words.specs.declared.row.Row.{Row}
+use Rattle.edit_words.specs.declared.findings.Findings.{Findings}
+use Rattle.edit_words.specs.declared.fault.CheckFault.{CheckFault}
+use Rattle.edit_words.specs.declared.fault.CheckFault.TheVariants as fault
+use Rattle.edit_words.specs.Found.{sight_in, HasFindings, IsCovered, IsFreeOr, IsLookAt, FaultsBy, failed_call}
 use Rattle.edit_check.specs.Checks.{FoundBy}
-use Rattle.edit_check.specs.Sight.{Sight, sight_of}
-use Rattle.edit_check.specs.Refusals.{first_fault, fault_if, refusal, parents, across, changed_bytes}
-use Rattle.edit_check.specs.Rows.{is_far}
-use Rattle.edit_check.specs.WellFormed.{CanBeMade}
+use Rattle.edit_words.specs.Sight.{Sight, sight_of}
+use Rattle.edit_words.specs.Refusals.{first_fault, fault_if, refusal, parents, across, changed_bytes}
+use Rattle.edit_words.specs.Rows.{is_elsewhere}
+use Rattle.edit_words.specs.WellFormed.{CanBeMade}
 use Rattle.edit_check.proofs.SameSight.{refusal_seen}
-use Rattle.edit_check.proofs.WellFormedLemmas.{taken_alone}
+use Rattle.edit_words.proofs.WellFormedLemmas.{taken_alone}
 
 -- ---- No fault of the changes names a call of the tree.
 
@@ -47,7 +47,7 @@ first_names rule [] names = none_names
 first_names rule (r ∷ rs) names = or_names (rule r) _ (names r) (first_names rule rs names)
 
 parents_names : (s : Sight) (rs : List Row) (r : Row) → NamesNoCall (parents s rs r)
-parents_names s rs r = cond_names (is_far r) _ (or_names _ _ (map_names (fault.ParentNotDirectory r.line) _ (λ a. refl)) (or_names _ _ (map_names (fault.MovedParent r.line) _ (λ a. refl)) (map_names (fault.ParentTaken r.line) _ (λ a. refl))))
+parents_names s rs r = cond_names (is_elsewhere r) _ (or_names _ _ (map_names (fault.ParentNotDirectory r.line) _ (λ a. refl)) (or_names _ _ (map_names (fault.MovedParent r.line) _ (λ a. refl)) (map_names (fault.ParentTaken r.line) _ (λ a. refl))))
 
 across_names : (s : Sight) (rs : List Row) (r : Row) → NamesNoCall (across s rs r)
 across_names s rs r =

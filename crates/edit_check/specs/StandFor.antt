@@ -4,12 +4,12 @@ use Rattle.tree_core.specs.FileTree.{FileTree, IsTree}
 use Rattle.tree_core.specs.declared.changes.Changes.{Changes}
 use Rattle.tree_core.specs.declared.changes.Confirmed.{Confirmed}
 use Rattle.edit_check.specs.declared.checked.Checked.{Checked}
-use Rattle.edit_check.specs.declared.counts.Counts.{Counts}
-use Rattle.edit_check.specs.Counting.{counts_of}
-use Rattle.edit_check.specs.Found.{HasFindings}
-use Rattle.edit_check.specs.Rows.{rows}
-use Rattle.edit_check.specs.Sight.{sight_of}
-use Rattle.edit_check.specs.WellFormed.{CanBeMade}
+use Rattle.edit_words.specs.declared.counts.Counts.{Counts}
+use Rattle.edit_words.specs.Counting.{counts_of}
+use Rattle.edit_words.specs.Found.{HasFindings}
+use Rattle.edit_words.specs.Rows.{rows}
+use Rattle.edit_words.specs.Sight.{sight_of}
+use Rattle.edit_words.specs.WellFormed.{CanBeMade}
 
 -- what a check keeps
 abbrev pub changes_in : Checked → Changes

@@ -1,12 +1,12 @@
 // Changes that can be made.
 ghost use Rattle.std.specs.Prelude.{◌≡◌, IfOk, None};
 ghost use Rattle.dired_text.specs.Paths.{Names};
-ghost use Rattle.edit_check.specs.Rows.{rows as rows_in};
-ghost use Rattle.edit_check.specs.Tables.{IsTable};
-ghost use Rattle.edit_check.specs.Found.{sight_in, IsCovered};
+ghost use Rattle.edit_words.specs.Rows.{rows as rows_in};
+ghost use Rattle.edit_rules.specs.Tables.{IsTable};
+ghost use Rattle.edit_words.specs.Found.{sight_in, IsCovered};
 ghost use Rattle.edit_check.specs.Facts.{IsTable-prop, IsCovered-prop};
-ghost use Rattle.edit_check.specs.Refusals.{refusal};
-ghost use Rattle.edit_check.specs.Counting.{counts_of};
+ghost use Rattle.edit_words.specs.Refusals.{refusal};
+ghost use Rattle.edit_words.specs.Counting.{counts_of};
 ghost use Rattle.edit_check.specs.Checks.{new_place_of};
 
 use crate::Counts;

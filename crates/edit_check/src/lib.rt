@@ -11,7 +11,7 @@ mod counts;
 mod deciding;
 mod fault;
 mod findings;
-mod fronts;
+mod ancestors;
 mod laws;
 mod look;
 mod looking;
@@ -33,5 +33,5 @@ pub use laws::{
     changes_can_be_made_where_it_stands, taken_where_nothing_is_refused,
     the_first_line_is_the_least, well_formed_where_no_fault_is_found,
 };
-pub use row::{Row, Turn, rows_of};
+pub use row::{Row, Route, rows_of};
 pub use sight::Seen;

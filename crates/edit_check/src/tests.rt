@@ -3,7 +3,7 @@ ghost use Rattle.std.specs.Prelude.{◌≡◌, IsTrue, All};
 ghost use Rattle.tree_core.specs.FileTree.{IsFile};
 ghost use Rattle.tree_core.specs.History.{current_tree};
 ghost use Rattle.tree_core.specs.declared.changes.Creation.{Creation as CreationValue};
-ghost use Rattle.edit_check.specs.WellFormed.{IsFileFor, LinksHaveFiles};
+ghost use Rattle.edit_words.specs.WellFormed.{IsFileFor, LinksHaveFiles};
 
 use crate::{CheckFault, Checked, Counts, can_be_asked, check};
 use dired_text::{Bytes, Memory, Path, Text, resolve};

@@ -6,20 +6,20 @@ use Rattle.dired_text.specs.Paths.{Names, parent}
 use Rattle.tree_core.specs.declared.node.Node.{Node}
 use Rattle.tree_core.specs.declared.changes.Changes.{Changes}
 use Rattle.tree_core.specs.FileTree.{FileTree, IsTree, IsFile, Stands, mode_of}
-use Rattle.edit_check.specs.declared.row.Row.{Row}
-use Rattle.edit_check.specs.Place.{place, IsAbove, fronts}
-use Rattle.edit_check.specs.Rows.{rows, written, is_far, last_name, turn_of, is_victim}
-use Rattle.edit_check.specs.Edited.{number_of, with_new_mode}
-use Rattle.edit_check.specs.WellFormed.{IsWellFormed, CanBeAsked, HasNumber, IsVictimOf}
+use Rattle.edit_words.specs.declared.row.Row.{Row}
+use Rattle.edit_words.specs.Place.{place, IsAbove, ancestors}
+use Rattle.edit_words.specs.Rows.{rows, written, is_elsewhere, last_name, route_of, is_victim}
+use Rattle.edit_words.specs.Edited.{node_number, with_new_mode}
+use Rattle.edit_words.specs.WellFormed.{IsWellFormed, CanBeAsked, HasNumber, IsVictimOf}
 
 -- A line is carried out on its source: that goes to the place that the line says, and has the mode that it says.
 pub record IsCarriedOut (t : FileTree) (rs : List Row) (r : Row) (source : Names) : Type 0 where
   -- to the new path, where that is outside of its directory
-  pub far : is_far r ≡ true → place (turn_of rs) source ≡ written r
+  pub far : is_elsewhere r ≡ true → place (route_of rs) source ≡ written r
   -- to the last name of a new path in its directory, wherever that directory goes
-  pub near : (w : Names) → r.to ≡ Some w → is_far r ≡ false → (w ≡ parent source ++ last_name w ∷ []) × (place (turn_of rs) source ≡ place (turn_of rs) (parent source) ++ last_name w ∷ [])
+  pub near : (w : Names) → r.to ≡ Some w → is_elsewhere r ≡ false → (w ≡ parent source ++ last_name w ∷ []) × (place (route_of rs) source ≡ place (route_of rs) (parent source) ++ last_name w ∷ [])
   -- and with its own name, where it has no new path
-  pub still : r.to ≡ None → place (turn_of rs) source ≡ place (turn_of rs) (parent source) ++ last_name source ∷ []
+  pub still : r.to ≡ None → place (route_of rs) source ≡ place (route_of rs) (parent source) ++ last_name source ∷ []
   -- with the new mode, if there is one
   pub mode : (mode : ℕ) (node : Node) → r.mode ≡ Some mode → get t source ≡ Some node → mode_of (with_new_mode t rs source node) ≡ mode
 
@@ -31,7 +31,7 @@ LinesAreCarriedOut =
 
 -- a line gives the entry at a path a mode: its source is that path, or shows the same file
 abbrev pub GivesMode : FileTree → Row → Names → Node → Type 0
-GivesMode t r p node = IsTrue (is_some r.mode) × ((r.source ≡ Some p) ⊎ ((number : ℕ) × HasNumber t r number × (number_of (Some node) ≡ Some number)))
+GivesMode t r p node = IsTrue (is_some r.mode) × ((r.source ≡ Some p) ⊎ ((number : ℕ) × HasNumber t r number × (node_number (Some node) ≡ Some number)))
 
 -- what no line gives a mode stays as it is
 abbrev pub OthersKeepTheirModes : Type 0
@@ -49,8 +49,8 @@ pub record IsShortestAbove (test : Names → Bool) (w u : Names) : Type 0 where
 
 -- The path that is found above a path is the shortest,
 abbrev pub FirstIsShortest : Type 0
-FirstIsShortest = (test : Names → Bool) (w u : Names) → find test (fronts w) ≡ Some u → IsShortestAbove test w u
+FirstIsShortest = (test : Names → Bool) (w u : Names) → find test (ancestors w) ≡ Some u → IsShortestAbove test w u
 
 -- and none passes where none is found.
 abbrev pub NonePasses : Type 0
-NonePasses = (test : Names → Bool) (w : Names) → find test (fronts w) ≡ None → (v : Names) → IsAbove v w → test v ≡ false
+NonePasses = (test : Names → Bool) (w : Names) → find test (ancestors w) ≡ None → (v : Names) → IsAbove v w → test v ≡ false

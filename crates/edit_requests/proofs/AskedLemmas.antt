@@ -25,8 +25,8 @@ use Rattle.wdired_buffer.specs.declared.typed.Typed.{Typed}
 use Rattle.wdired_buffer.specs.EntryLaws.{AllOk}
 use Rattle.wdired_buffer.specs.Headers.{named}
 use Rattle.wdired_buffer.specs.Edits.{or_faulty, same_path, texts_in, path_typed, kept, mode_typed, target_typed, typed_of, changed, if_any, if_emptied, asked_of, nothing, same_fixed, line_asks}
-use Rattle.edit_check.specs.Rows.{edit_row}
-use Rattle.edit_check.specs.WellFormed.{IsEdit, IsNoRoot}
+use Rattle.edit_words.specs.Rows.{edit_row}
+use Rattle.edit_words.specs.WellFormed.{IsEdit, IsNoRoot}
 use Rattle.edit_requests.proofs.ReadLemmas.{named_some, target_lawful}
 use Rattle.edit_requests.proofs.LineLemmas.{then_all, all_at, HasSource}
 

@@ -1,8 +1,8 @@
 use Rattle.std.proofs.Common.{List, ap, ◌∙◌, subst}
-use Rattle.edit_check.specs.declared.row.Row.{Row}
-use Rattle.edit_check.specs.Counting.{counts_of}
-use Rattle.edit_check.specs.Sight.{sight_of}
-use Rattle.edit_check.specs.WellFormed.{CanBeMade}
+use Rattle.edit_words.specs.declared.row.Row.{Row}
+use Rattle.edit_words.specs.Counting.{counts_of}
+use Rattle.edit_words.specs.Sight.{sight_of}
+use Rattle.edit_words.specs.WellFormed.{CanBeMade}
 use Rattle.edit_check.proofs.CheckLemmas.{made}
 use Rattle.edit_check.proofs.SameSight.{counts_seen}
 use Rattle.edit_check.proofs.laws.changes_can_be_made_where_it_stands.Goals as goal

@@ -1,0 +1,5 @@
+pub mod LeastLemmas
+pub mod ClaimLemmas
+pub mod RuleLemmas
+pub mod BytesLemmas
+pub mod CountLemmas

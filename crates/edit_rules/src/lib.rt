@@ -1,0 +1,16 @@
+//! The decision on edits by what was found: which rule refuses them first, and how much they change.
+#![tactic(auto)]
+
+mod bytes;
+mod claims;
+mod counting;
+mod places;
+mod refusal;
+mod rules;
+mod table;
+mod victims;
+
+pub use counting::counts;
+pub use places::place;
+pub use refusal::first_refusal;
+pub use table::Table;
