@@ -21,6 +21,7 @@ use Rattle.edit_words.specs.Refusals.{staging, first_fault, fault_if, is_as_show
 use Rattle.edit_words.specs.Counting.{different, counts_of}
 use Rattle.edit_words.specs.Found.{sight_in, HasFindings, IsSeen, IsCovered}
 use Rattle.edit_words.proofs.AboveLemmas.{above_decides, ancestors_above}
+use Rattle.edit_words.proofs.FindingsLemmas.{told_found}
 use Rattle.edit_words.proofs.AlikeLemmas.{find_alike, line_where_alike, filter_alike, flat_map_alike, total_alike, fault_alike}
 
 -- ---- sights that agree
@@ -41,11 +42,7 @@ pub record AgreeOn (s u : Sight) (rs : List Row) : Type 0 where
   pub rows : (r : Row) → Contains rs r → Agree s u r
 
 seen_at : (f : Findings) (s : Sight) → HasFindings f s → (p : Names) → IsSeen f p → (sight_in f).at p ≡ s.at p
-seen_at f s has p is = by_found (get path_cmp f.found p) refl is
-  where
-    by_found : (o : Option (Option Seen)) → get path_cmp f.found p ≡ o → IsTrue (is_some o) → unwrap_or (get path_cmp f.found p) None ≡ s.at p
-    by_found None e is = absurd (false≢true is)
-    by_found (Some found) e is = ap (λ (o : Option (Option Seen)). unwrap_or o None) e ∙ sym (has.at p found e)
+seen_at f s has p is = sym (told_found p has is)
 
 emptied_at : (f : Findings) (s : Sight) → HasFindings f s → (p : Names) → IsTrue (is_some (get path_cmp f.empty p)) → (sight_in f).is_empty p ≡ s.is_empty p
 emptied_at f s has p is = by_found (get path_cmp f.empty p) refl is

@@ -3,17 +3,16 @@ ghost use Rattle.std.specs.Prelude.{◌≡◌, IfOk, None};
 ghost use Rattle.dired_text.specs.Paths.{Names};
 ghost use Rattle.edit_words.specs.Rows.{rows as rows_in};
 ghost use Rattle.edit_rules.specs.Tables.{IsTable};
-ghost use Rattle.edit_words.specs.Found.{sight_in, IsCovered};
-ghost use Rattle.edit_check.specs.Facts.{IsTable-prop, IsCovered-prop};
+ghost use Rattle.edit_words.specs.Found.{sight_in, IsClosed, IsCovered};
+ghost use Rattle.edit_check.specs.Facts.{AreAsked-prop, IsClosed-prop, IsCovered-prop, IsTable-prop};
 ghost use Rattle.edit_words.specs.Refusals.{refusal};
+ghost use Rattle.edit_words.specs.WellFormed.{AreAsked};
 ghost use Rattle.edit_words.specs.Counting.{counts_of};
 ghost use Rattle.edit_check.specs.Checks.{new_place_of};
 
-use crate::Counts;
-use crate::findings::Findings;
-use crate::places::place;
-use crate::table::Table;
 use dired_text::{Memory, Path};
+use edit_rules::{Table, place};
+use edit_words::{Counts, Findings};
 use std::alloc::Global;
 use tree_core::{Changes, Confirmed};
 
@@ -30,6 +29,8 @@ pub struct Checked {
     ghost rows_are: { table.rows.items ≡ rows_in changes },
     ghost table_is: { IsTable table } by { IsTable-prop table },
     ghost covered: { IsCovered findings table.rows.items } by { IsCovered-prop findings table.rows.items },
+    ghost closed: { IsClosed findings } by { IsClosed-prop findings },
+    ghost asked: { AreAsked changes } by { AreAsked-prop changes },
     ghost taken: { refusal (sight_in findings) confirmed table.rows.items ≡ None },
     ghost counted: { counts ≡ counts_of (sight_in findings) table.rows.items },
 }
@@ -39,7 +40,8 @@ impl Checked {
 
     /// The changes, in the order of their lines.
     pub fn changes(&self) -> &Changes
-        ensures { result.now ≡ changes_in self.now }
+        ensures changes { result.now ≡ changes_in self.now }
+        ensures asked { AreAsked result.now }
     {
         &self.changes
     }

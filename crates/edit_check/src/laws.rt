@@ -1,5 +1,5 @@
 // What holds of changes that were checked.
-ghost use Rattle.edit_check.specs.StandFor.{CanBeMadeWhereItStands, CountedWhereItStands};
+ghost use Rattle.edit_check.specs.StandFor.{CanBeMadeWhereItStands, CountedWhereItStands, IsChecked};
 
 use crate::Checked;
 
@@ -7,6 +7,14 @@ use crate::Checked;
 pub fn changes_can_be_made_where_it_stands(checked: &Checked)
     ensures made { CanBeMadeWhereItStands checked.now }
     ensures counted { CountedWhereItStands checked.now }
+{
+    let _changes = &checked.changes;
+}
+
+/// What holds of a `Checked` whatever the tree told: its changes can be asked for, what was found refuses nothing of them and gives
+/// their counts, and above what was found to stand there are directories.
+pub fn what_is_checked(checked: &Checked)
+    ensures { IsChecked checked.now }
 {
     let _changes = &checked.changes;
 }

@@ -1,26 +1,24 @@
 // The check of changes against a tree.
-ghost use Rattle.std.specs.Prelude.{◌≡◌, ◌⊎◌, IfOk, IfErr, OnOk, MatchResult, None, Some};
+ghost use Rattle.std.specs.Prelude.{◌≡◌, ◌⊎◌, IfOk, IfErr, OnOk, None, Some};
 ghost use Rattle.tree_core.specs.FileTree.{IsFile};
 ghost use Rattle.tree_core.specs.History.{current_tree};
+ghost use Rattle.tree_core.specs.Looks.{OnlyLooked, failed_in, faults_with};
+ghost use Rattle.edit_words.specs.declared.fault.CheckFault.TheVariants as faults;
 ghost use Rattle.edit_words.specs.Rows.{rows as rows_in};
 ghost use Rattle.edit_words.specs.Sight.{sight_of};
 ghost use Rattle.edit_words.specs.Refusals.{first_fault, refusal, staging, stale};
-ghost use Rattle.edit_rules.specs.Tables.{IsTable};
-ghost use Rattle.edit_words.specs.declared.fault.CheckFault.TheVariants as faults;
 ghost use Rattle.edit_words.specs.Counting.{counts_of};
 ghost use Rattle.edit_words.specs.WellFormed.{AreAsked, CanBeMade, LinksHaveFiles};
-ghost use Rattle.edit_words.specs.Found.{FaultsBy, IsCovered, IsFreeOr, IsLookAt, failed_call, sight_in};
-ghost use Rattle.edit_check.specs.Checks.{FoundBy};
+ghost use Rattle.edit_words.specs.Found.{IsClosed, IsCovered, IsFreeOr, IsLookAt, failed_call, sight_in};
+ghost use Rattle.edit_rules.specs.Tables.{IsTable};
+ghost use Rattle.edit_check.specs.Checks.{IsAnswer};
 ghost use Rattle.edit_check.specs.StandFor.{StandsFor, changes_in, confirmed_in, counts_in};
 
-use crate::counting::counts;
-use crate::deciding::first_refusal;
-use crate::findings::Findings;
-use crate::looking::look_for_rows;
-use crate::row::rows_of;
-use crate::table::Table;
-use crate::{CheckFault, Checked};
+use crate::Checked;
 use dired_text::Memory;
+use edit_looks::look_for_rows;
+use edit_rules::{Table, counts, first_refusal};
+use edit_words::{CheckFault, Findings, rows_of};
 use std::alloc::Global;
 use tree_core::{Changes, Confirmed, Items, Tree};
 
@@ -29,7 +27,8 @@ use tree_core::{Changes, Confirmed, Items, Tree};
 ///
 /// # Errors
 /// The first of the faults in the order of [`CheckFault`], but that faults from `Reserved` to `PathTooLong` come by their lines.
-/// Two looks that contradict each other, as they may where another program changes the tree, are `Stale`.
+/// Two looks that contradict each other, as they may where another program changes the tree, are `Stale` at the line for which
+/// the second one was.
 pub fn check<T: Tree>(
     alloc: Global,
     tree: &mut T,
@@ -41,17 +40,15 @@ pub fn check<T: Tree>(
 
     ensures taken { T.Tells → OnOk result (CanBeMade (current_tree (T.history tree.old)) confirmed.now (rows_in changes)) }
     ensures refused { T.Tells → IfErr result (λ fault. IsFreeOr fault (refusal (sight_of (current_tree (T.history tree.old))) confirmed.now (rows_in changes))) }
+    ensures answer { IfErr result (IsAnswer confirmed.now (rows_in changes)) }
     ensures keeps { IfOk result (λ c. (changes_in c ≡ changes) × (confirmed_in c ≡ confirmed.now)) }
     ensures stands_for { T.Tells → IfOk result (λ c. StandsFor c (current_tree (T.history tree.old))) }
     ensures counts { T.Tells → IfOk result (λ c. counts_in c ≡ counts_of (sight_of (current_tree (T.history tree.old))) (rows_in changes)) }
-    ensures history { T.Tells → T.history tree.new ≡ T.history tree.old }
-    ensures fields { T.Tells → T.fields tree.new ≡ T.fields tree.old }
-    ensures before_failed { T.Tells → MatchResult result
-        (λ _. T.before_failed tree.new ≡ T.before_failed tree.old)
-        (λ fault. FoundBy (failed_call fault) (current_tree (T.history tree.old)) (T.before_failed tree.old) (T.before_failed tree.new)) }
-    ensures held { OnOk result (T.faults tree.new ≡ T.faults tree.old) }
-    ensures faults { IfErr result (λ fault. FaultsBy (failed_call fault) (T.faults tree.old) (T.faults tree.new)) }
-    ensures looks { IfErr result (λ fault. IsLookAt (failed_call fault)) }
+    ensures looked { T.Tells → OnlyLooked (failed_in failed_call result)
+        (T.history tree.old) (T.history tree.new) (T.fields tree.old) (T.fields tree.new)
+        (T.before_failed tree.old) (T.before_failed tree.new) }
+    ensures faults { T.faults tree.new ≡ faults_with (failed_in failed_call result) (T.faults tree.old) }
+    ensures looks { IsLookAt (failed_in failed_call result) }
 {
     let rows = rows_of(alloc, &changes)?;
     let findings = look_for_rows(alloc, tree, &rows)?;
@@ -71,8 +68,9 @@ fn decide(
     requires rows { table.rows.items ≡ rows_in changes }
     requires asked { AreAsked changes }
     requires covered { IsCovered findings table.rows.items }
+    requires closed { IsClosed findings }
     requires unstaged { (sight_in findings).at staging ≡ None }
-    requires fresh { first_fault (stale (sight_in findings)) table.rows.items ≡ None }
+    requires shown { first_fault (stale (sight_in findings)) table.rows.items ≡ None }
     ensures refused { IfErr result (λ fault. (fault ≡ faults.Memory) ⊎ (refusal (sight_in findings) confirmed.now table.rows.items ≡ Some fault)) }
     ensures keeps { IfOk result (λ c. (c.changes ≡ changes) × (c.confirmed ≡ confirmed.now) × (c.findings ≡ findings)) }
     ensures taken { OnOk result (refusal (sight_in findings) confirmed.now table.rows.items ≡ None) }

@@ -209,6 +209,11 @@ kind_shown {t} {fields} p meta kind are is told = by_node (get_in t p) refl is
     by_node None at none = absurd (none-some kind (sym none))
     by_node (Some node) at some = ap (λ (m : Meta). m.kind) told ∙ (are.shows p node at).kind ∙ sym (same_Some kind (kind_of node) some)
 
+-- where there is no kind nothing is seen
+pub none_shown : (o : Option Node) → None ≡ option_map kind_of o → option_map seen o ≡ None
+none_shown None e = refl
+none_shown (Some node) e = absurd (none-some (kind_of node) e)
+
 -- ---- whether directories are empty
 
 -- at most this one is new

@@ -1,5 +1,5 @@
 -- What was found of rows stays, and covers them.
-use Rattle.std.proofs.Common.{◌≡◌, inl, inr, ℕ, ◌+◌, ◌<◌, Bool, not, All, List, [], ◌∷◌, ◌++◌, length, take, drop, get_or, refl, sym, ◌∙◌, ap, subst, Option, Some, None, is_some, IsTrue, Contains}
+use Rattle.std.proofs.Common.{◌≡◌, inl, inr, ℕ, ◌+◌, ◌<◌, Bool, true, not, All, List, [], ◌∷◌, ◌++◌, length, take, drop, get_or, refl, sym, ◌∙◌, ap, subst, Option, Some, None, is_some, IsTrue, Contains}
 use Rattle.std.specs.BTreeMap.{BTreeMap, get}
 use Rattle.std.specs.Option.{unwrap_or}
 use Rattle.std.proofs.lemmas.Bool.{false≢true}
@@ -15,7 +15,7 @@ use Rattle.edit_words.specs.declared.fault.CheckFault.{CheckFault}
 use Rattle.edit_words.specs.declared.fault.CheckFault.TheVariants.{Stale}
 use Rattle.edit_words.specs.Sight.{Sight, is_dir}
 use Rattle.edit_words.specs.Refusals.{staging, first_fault, fault_if, is_as_shown, is_stale_at, stale}
-use Rattle.edit_words.specs.Found.{sight_in, HasFindings, HasGrown, IsClosed, IsCovered, IsFreeOr}
+use Rattle.edit_words.specs.Found.{sight_in, HasFindings, HasGrown, IsClosed, IsCovered, IsFreeOr, IsSeen}
 use Rattle.edit_looks.specs.Looks.{IsShownIn, IsStaleIn, IsToSeen, IsRemovedSeen}
 use Rattle.edit_words.proofs.FindLemmas.{fault_none}
 use Rattle.edit_words.proofs.FirstLemmas.{fault_of_first}
@@ -83,6 +83,13 @@ stale_first f s rs i r fault told below is all (inr (inr here)) =
           let shown = All-contains (IsShownIn f) (take i rs) o all listed in
           stale_found s (sight_in f) o (λ p e. told_found p told (shown.seen p e)) ∙ shown.shown;
     })))
+
+-- what is stale by what was found is stale
+pub stale_told : (f : Findings) (s : Sight) (r : Row) (source : Names) → HasFindings f s → r.source ≡ Some source → IsSeen f source → is_stale_at (sight_in f) (Some source) r.was ≡ true → stale s r ≡ Some (Stale r.line)
+stale_told f s r source told is seen e = ap (λ (b : Bool). fault_if b (Stale r.line)) (
+    ap (λ (o : Option Names). is_stale_at s o r.was) is
+    ∙ stale_same s (sight_in f) (Some source) r.was (λ p same. subst (λ (q : Names). s.at q ≡ (sight_in f).at q) (same_Some source p same) (told_found source told seen))
+    ∙ e)
 
 -- the line of a row of these
 pub line_in : (rs : List Row) (r : Row) (fault : CheckFault) → Contains rs r → IsFreeOr fault (Some (Stale r.line)) → IsStaleIn rs fault

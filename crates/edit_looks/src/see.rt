@@ -43,10 +43,11 @@ pub fn see<T: Tree>(
     if findings.stands(path) {
         return Ok(());
     }
-    let Some(last) = path.names().len().checked_sub(1) else {
+    let count = path.names().len();
+    if count == 0 {
         return see_down(alloc, tree, findings, path);
-    };
-    let dir = ancestor(alloc, path, last)?;
+    }
+    let dir = ancestor(alloc, path, count - 1)?;
     if findings.is_dir(&dir) {
         see_here(alloc, tree, findings, path)?;
         return Ok(());

@@ -3,3 +3,4 @@ pub mod ClaimLemmas
 pub mod RuleLemmas
 pub mod BytesLemmas
 pub mod CountLemmas
+pub mod PlaceLemmas

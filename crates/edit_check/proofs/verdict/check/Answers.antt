@@ -1,6 +1,7 @@
 use Rattle.std.proofs.Common.{rules, ◌≡◌, ◌⊎◌, List, None, Some, ap, ◌∙◌, subst}
 use Rattle.tree_core.specs.FileTree.{IsTree}
 use Rattle.tree_core.specs.History.{current_tree}
+use Rattle.edit_check.specs.Checks.{IsAnswer}
 use Rattle.edit_check.specs.declared.checked.Checked.{Checked}
 use Rattle.edit_words.specs.declared.fault.CheckFault.TheVariants as fault
 use Rattle.edit_words.specs.declared.row.Row.{Row}
@@ -10,7 +11,7 @@ use Rattle.edit_words.specs.Refusals.{refusal}
 use Rattle.edit_words.specs.Rows.{rows}
 use Rattle.edit_words.specs.Sight.{sight_of}
 use Rattle.edit_words.specs.WellFormed.{CanBeMade}
-use Rattle.edit_check.proofs.CheckLemmas.{err_map, faults_by, found_by, free, looks_by, made, names_none, ok_map}
+use Rattle.edit_check.proofs.CheckLemmas.{answered, err_map, faults_by, free, looked_by, looks_by, made, names_none, ok_map}
 use Rattle.edit_check.proofs.SameSight.{counts_seen, refusal_seen}
 use Rattle.edit_check.proofs.verdict.check.Goals as goal
 
@@ -51,18 +52,18 @@ returns-clause-counts g c tells =
     (λ k counted. counted ∙ counts_seen findings (sight_of t) listed has covered ∙ ap (counts_of (sight_of t)) rows_are)
     c.decide.ensures.counts
 
-pub returns-clause-before_failed : goal.returns-clause-before_failed
-returns-clause-before_failed g c tells =
+pub returns-clause-looked : goal.returns-clause-looked
+returns-clause-looked g c tells =
     let findings = c.in_ok-findings.findings in
     let listed = c.in_ok-table.table.rows.items in
-    found_by c.decide.result _ _ _ (c.in_ok-findings.ensures.before_failed tells)
+    looked_by c.decide.result (c.in_ok-findings.ensures.looked tells)
     (err_map c.decide.result (λ f. (f ≡ fault.Memory) ⊎ (refusal (sight_in findings) c.args.confirmed.now listed ≡ Some f)) (λ f. failed_call f ≡ None) (names_none (sight_in findings) c.args.confirmed.now listed) c.decide.ensures.refused)
 
 pub returns-clause-faults : goal.returns-clause-faults
 returns-clause-faults g c =
     let findings = c.in_ok-findings.findings in
     let listed = c.in_ok-table.table.rows.items in
-    faults_by c.decide.result _ _ c.in_ok-findings.ensures.held
+    faults_by c.decide.result _ _ c.in_ok-findings.ensures.faults
     (err_map c.decide.result (λ f. (f ≡ fault.Memory) ⊎ (refusal (sight_in findings) c.args.confirmed.now listed ≡ Some f)) (λ f. failed_call f ≡ None) (names_none (sight_in findings) c.args.confirmed.now listed) c.decide.ensures.refused)
 
 pub returns-clause-looks : goal.returns-clause-looks
@@ -71,3 +72,12 @@ returns-clause-looks g c =
     let listed = c.in_ok-table.table.rows.items in
     looks_by c.decide.result
     (err_map c.decide.result (λ f. (f ≡ fault.Memory) ⊎ (refusal (sight_in findings) c.args.confirmed.now listed ≡ Some f)) (λ f. failed_call f ≡ None) (names_none (sight_in findings) c.args.confirmed.now listed) c.decide.ensures.refused)
+
+pub returns-clause-answer : goal.returns-clause-answer
+returns-clause-answer g c =
+    let findings = c.in_ok-findings.findings in
+    let listed = c.in_ok-table.table.rows.items in
+    let rows_are : listed ≡ rows c.args.changes = search rules in
+    err_map c.decide.result (λ f. (f ≡ fault.Memory) ⊎ (refusal (sight_in findings) c.args.confirmed.now listed ≡ Some f)) (IsAnswer c.args.confirmed.now (rows c.args.changes))
+    (λ f cause. answered (sight_in findings) c.args.confirmed.now listed (rows c.args.changes) f rows_are cause)
+    c.decide.ensures.refused

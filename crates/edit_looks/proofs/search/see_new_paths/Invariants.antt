@@ -1,9 +1,9 @@
 use Rattle.std.proofs.Common.{◌≡◌, All, take}
 use Rattle.tree_core.specs.History.{current_tree}
 use Rattle.edit_words.specs.Sight.{sight_of}
-use Rattle.edit_words.specs.Found.{HasFindings}
+use Rattle.edit_words.specs.Found.{HasFindings, IsClosed}
 use Rattle.edit_words.specs.Found.{HasGrown}
-use Rattle.edit_looks.specs.Looks.{IsClosed, IsToSeen}
+use Rattle.edit_looks.specs.Looks.{IsToSeen}
 use Rattle.edit_looks.proofs.search.see_new_paths.Given as goal
 
 abbrev pub invariant-loop-row : goal.invariant-loop-row

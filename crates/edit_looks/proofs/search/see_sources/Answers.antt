@@ -1,4 +1,4 @@
-use Rattle.std.proofs.Common.{◌<◌, All, List, length, rules, subst}
+use Rattle.std.proofs.Common.{◌<◌, All, Contains, List, length, rules, subst}
 use Rattle.std.proofs.lemmas.List.{take_all}
 use Rattle.std.proofs.lemmas.Result.{err_from_is_err_and}
 use Rattle.tree_core.specs.History.{History, current_tree}
@@ -8,7 +8,7 @@ use Rattle.edit_words.specs.Refusals.{stale}
 use Rattle.edit_words.specs.Found.{IsFreeOr}
 use Rattle.edit_looks.specs.Looks.{IsShownIn}
 use Rattle.edit_words.proofs.FindingsLemmas.{grown_on}
-use Rattle.edit_looks.proofs.SearchLemmas.{rows_more, shown_stays, stale_first}
+use Rattle.edit_looks.proofs.SearchLemmas.{line_in, rows_more, shown_stays, stale_first}
 use Rattle.edit_looks.proofs.search.see_sources.Goals as goal
 
 pub loop-row-preserved : goal.loop-row-preserved
@@ -36,3 +36,9 @@ returns-in_err-see_source-clause-refused g c tells =
     let here : IsFreeOr c.in_err-see_source.field-0.0 (stale s c.row-item.result) = subst (λ (h : History). IsFreeOr c.in_err-see_source.field-0.0 (stale (sight_of (current_tree h)) c.row-item.result)) (c.loop-row.invariant.history tells) (c.in_err-see_source.ensures.refused tells) in
     let p = err_from_is_err_and c.from_residual.result c.from_residual.ensures.1 in
     rw (p.1, p.2) (stale_first c.loop-row.findings s c.args.rows.now c.loop-row.row-index c.row-item.result c.in_err-see_source.field-0.0 (c.loop-row.invariant.told tells) below c.row-item.is c.loop-row.invariant.shown here)
+
+pub returns-in_err-see_source-clause-line : goal.returns-in_err-see_source-clause-line
+returns-in_err-see_source-clause-line g c =
+    let listed : Contains c.args.rows.now c.row-item.result = search rules in
+    let p = err_from_is_err_and c.from_residual.result c.from_residual.ensures.1 in
+    rw (p.1, p.2) (line_in c.args.rows.now c.row-item.result c.in_err-see_source.field-0.0 listed c.in_err-see_source.ensures.line)
