@@ -4,3 +4,4 @@ pub mod RuleLemmas
 pub mod BytesLemmas
 pub mod CountLemmas
 pub mod PlaceLemmas
+pub mod PlanLemmas

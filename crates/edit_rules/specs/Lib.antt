@@ -1,3 +1,4 @@
 pub mod Claims
 pub mod PathSets
+pub mod Plans
 pub mod Tables

@@ -4,6 +4,7 @@
 mod bytes;
 mod claims;
 mod counting;
+mod lists;
 mod places;
 mod refusal;
 mod rules;
@@ -11,6 +12,7 @@ mod table;
 mod victims;
 
 pub use counting::counts;
+pub use lists::{missing_by_path, victims_by_line};
 pub use places::place;
 pub use refusal::first_refusal;
 pub use table::Table;
