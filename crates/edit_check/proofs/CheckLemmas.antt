@@ -120,7 +120,7 @@ answered s confirmed rs os f same (inl memory) = inl (inl memory)
 answered s confirmed rs os f same (inr is) = inr (s, sym (ap (refusal s confirmed) same) ∙ is)
 
 -- something stands everywhere
-full : Sight
+abbrev full : Sight
 full = record { at = λ p. Some (Dir 0); is_empty = λ p. false }
 
 pub end_answered : (confirmed : Confirmed) (rs : List Row) (f : CheckFault) → IsLookEnd rs f → IsAnswer confirmed rs f

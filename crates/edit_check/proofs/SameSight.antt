@@ -1,7 +1,7 @@
 -- Refusals and counts depend only on what was looked at.
-use Rattle.std.proofs.Common.{◌≡◌, ℕ, ◌+◌, Bool, true, false, cond, not, ◌&&◌, List, [], count_by, length, refl, sym, ◌∙◌, ap, subst, Option, Some, None, Contains, option_map, is_some, IsTrue}
+use Rattle.std.proofs.Common.{◌≡◌, ℕ, ◌+◌, Bool, true, false, cond, not, ◌&&◌, List, [], ◌∷◌, count_by, length, refl, sym, ◌∙◌, ap, subst, Option, Some, None, Contains, option_map, is_some, IsTrue}
 use Rattle.std.specs.BTreeMap.{get}
-use Rattle.std.specs.List.{flat_map}
+use Rattle.std.specs.List.{cons_option, flat_map, filter_map, list_any}
 use Rattle.std.specs.Option.{option_or, unwrap_or}
 use Rattle.std.proofs.lemmas.Bool.{false≢true}
 use Rattle.std.proofs.lemmas.List.Sums.{length-filter}
@@ -21,6 +21,9 @@ use Rattle.edit_words.specs.Refusals.{staging, first_fault, fault_if, is_as_show
 use Rattle.edit_words.specs.Counting.{different, counts_of}
 use Rattle.edit_words.specs.Found.{sight_in, HasFindings, IsSeen, IsCovered}
 use Rattle.edit_words.proofs.AboveLemmas.{above_decides, ancestors_above}
+use Rattle.edit_rules.specs.Plans.{AreMissing, victims_of}
+use Rattle.edit_words.specs.Rows.{is_same_path}
+use Rattle.edit_words.proofs.FindLemmas.{contains_head, contains_tail}
 use Rattle.edit_words.proofs.FindingsLemmas.{told_found}
 use Rattle.edit_words.proofs.AlikeLemmas.{find_alike, line_where_alike, filter_alike, flat_map_alike, total_alike, fault_alike}
 
@@ -220,3 +223,22 @@ refusal_seen f s confirmed rs has covered = refusal_same (sight_in f) s confirme
 
 pub counts_seen : (f : Findings) (s : Sight) (rs : List Row) → HasFindings f s → IsCovered f rs → counts_of (sight_in f) rs ≡ counts_of s rs
 counts_seen f s rs has covered = counts_same (sight_in f) s rs (findings_agree f s rs has covered)
+
+filter_map_alike : {A B : Type 0} (f g : A → Option B) (xs : List A) → ((x : A) → Contains xs x → f x ≡ g x) → filter_map f xs ≡ filter_map g xs
+filter_map_alike f g [] same = refl
+filter_map_alike f g (x ∷ xs) same =
+    ap (λ o. cons_option o (filter_map f xs)) (same x (contains_head x xs))
+    ∙ ap (cons_option (g x)) (filter_map_alike f g xs (λ y c. same y (contains_tail x y xs c)))
+
+pub victims_seen : (f : Findings) (s : Sight) (rs : List Row) → HasFindings f s → IsCovered f rs → victims_of (sight_in f) rs ≡ victims_of s rs
+victims_seen f s rs has covered =
+    let all = findings_agree f s rs has covered in
+    filter_map_alike _ _ rs (λ r c. ap (option_map (λ (p : Names). (r.line, p))) (victim_same (sight_in f) s rs r (all.rows r c)))
+
+pub missing_seen : (f : Findings) (s : Sight) (rs : List Row) (ps : List Names) → HasFindings f s → IsCovered f rs → AreMissing (sight_in f) rs ps → AreMissing s rs ps
+missing_seen f s rs ps has covered missing =
+    let all = findings_agree f s rs has covered in
+    record {
+      sorted = missing.sorted;
+      same = λ p. missing.same p ∙ ap (λ (l : List Names). list_any (is_same_path p) l) (flat_map_alike _ _ rs (λ r c. missing_same (sight_in f) s r (all.rows r c)));
+    }

@@ -1,7 +1,9 @@
 -- That what a check keeps is one fact.
 use Rattle.std.specs.Prelude.{◌≡◌, ℕ, zero, suc, List, refl}
 use Rattle.std.specs.Coded.{Coded, Coded-set, code_by, coded_ℕ, Unit-prop}
+use Rattle.std.specs.List.Sorted.{IsStrictlySortedBy-prop}
 use Rattle.std.proofs.Props.{props}
+use Rattle.dired_text.specs.Paths.{Names}
 use Rattle.tree_core.specs.declared.node.Kind.{Kind}
 use Rattle.tree_core.specs.declared.node.Kind.TheVariants as kind
 use Rattle.tree_core.specs.declared.edit.Edit.{Edit}
@@ -14,6 +16,8 @@ use Rattle.edit_words.specs.declared.row.Row.{Row}
 use Rattle.edit_words.specs.declared.findings.Findings.{Findings}
 use Rattle.edit_words.specs.Found.{IsClosed, IsCovered}
 use Rattle.edit_words.specs.WellFormed.{AreAsked, AreLawful, IsEdit, IsFreshIn}
+use Rattle.edit_words.specs.Sight.{Sight}
+use Rattle.edit_rules.specs.Plans.{AreMissing}
 use Rattle.edit_rules.specs.declared.table.Table.{Table}
 use Rattle.edit_rules.specs.Tables.{IsTable}
 
@@ -25,6 +29,9 @@ IsCovered-prop f rs = hlevel props
 
 pub IsClosed-prop : (f : Findings) → IsProp (IsClosed f)
 IsClosed-prop f = hlevel props
+
+pub AreMissing-prop : (sight : Sight) (rs : List Row) (ps : List Names) → IsProp (AreMissing sight rs ps)
+AreMissing-prop sight rs ps = hlevel (props, IsStrictlySortedBy-prop)
 
 -- ---- What can be asked for is one fact.
 

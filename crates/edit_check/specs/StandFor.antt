@@ -1,5 +1,5 @@
 -- The trees that a check stands for.
-use Rattle.std.specs.Prelude.{◌≡◌, true, None, is_some, IsTrue}
+use Rattle.std.specs.Prelude.{◌≡◌, true, List, None, is_some, IsTrue}
 use Rattle.dired_text.specs.Paths.{Names}
 use Rattle.tree_core.specs.FileTree.{FileTree, IsTree}
 use Rattle.tree_core.specs.declared.changes.Changes.{Changes}
@@ -12,6 +12,7 @@ use Rattle.edit_words.specs.Place.{IsAbove}
 use Rattle.edit_words.specs.Refusals.{refusal}
 use Rattle.edit_words.specs.Rows.{rows}
 use Rattle.edit_words.specs.Sight.{Sight, is_dir, sight_of}
+use Rattle.edit_rules.specs.Plans.{AreMissing, victims_of}
 use Rattle.edit_words.specs.WellFormed.{AreAsked, CanBeMade}
 
 -- what a check keeps
@@ -46,3 +47,9 @@ CanBeMadeWhereItStands checked = (t : FileTree) → IsTree t → StandsFor check
 -- and the counts are theirs
 abbrev pub CountedWhereItStands : Checked → Type 0
 CountedWhereItStands checked = (t : FileTree) → StandsFor checked t → counts_in checked ≡ counts_of (sight_of t) (rows (changes_in checked))
+
+-- and so are what they replace and the directories that they make
+abbrev pub ListedWhereItStands : Checked → Type 0
+ListedWhereItStands checked = (t : FileTree) → StandsFor checked t
+    → (victims_of (found_in checked) (rows (changes_in checked)) ≡ victims_of (sight_of t) (rows (changes_in checked)))
+    × ((ps : List Names) → AreMissing (found_in checked) (rows (changes_in checked)) ps → AreMissing (sight_of t) (rows (changes_in checked)) ps)

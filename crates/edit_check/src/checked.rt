@@ -4,10 +4,11 @@ ghost use Rattle.dired_text.specs.Paths.{Names};
 ghost use Rattle.edit_words.specs.Rows.{rows as rows_in};
 ghost use Rattle.edit_rules.specs.Tables.{IsTable};
 ghost use Rattle.edit_words.specs.Found.{sight_in, IsClosed, IsCovered};
-ghost use Rattle.edit_check.specs.Facts.{AreAsked-prop, IsClosed-prop, IsCovered-prop, IsTable-prop};
+ghost use Rattle.edit_check.specs.Facts.{AreAsked-prop, AreMissing-prop, IsClosed-prop, IsCovered-prop, IsTable-prop};
 ghost use Rattle.edit_words.specs.Refusals.{refusal};
 ghost use Rattle.edit_words.specs.WellFormed.{AreAsked};
 ghost use Rattle.edit_words.specs.Counting.{counts_of};
+ghost use Rattle.edit_rules.specs.Plans.{AreMissing, victims_of};
 ghost use Rattle.edit_check.specs.Checks.{new_place_of};
 
 use dired_text::{Memory, Path};
@@ -26,6 +27,8 @@ pub struct Checked {
     pub(crate) findings: Findings,
     pub(crate) table: Table,
     pub(crate) counts: Counts,
+    pub(crate) victims: Vec<(u32, Path)>,
+    pub(crate) missing: Vec<Path>,
     ghost rows_are: { table.rows.items ≡ rows_in changes },
     ghost table_is: { IsTable table } by { IsTable-prop table },
     ghost covered: { IsCovered findings table.rows.items } by { IsCovered-prop findings table.rows.items },
@@ -33,10 +36,12 @@ pub struct Checked {
     ghost asked: { AreAsked changes } by { AreAsked-prop changes },
     ghost taken: { refusal (sight_in findings) confirmed table.rows.items ≡ None },
     ghost counted: { counts ≡ counts_of (sight_in findings) table.rows.items },
+    ghost replaced: { victims.items ≡ victims_of (sight_in findings) table.rows.items },
+    ghost made: { AreMissing (sight_in findings) table.rows.items missing.items } by { AreMissing-prop (sight_in findings) table.rows.items missing.items },
 }
 
 impl Checked {
-    ghost use Rattle.edit_check.specs.StandFor.{changes_in, counts_in};
+    ghost use Rattle.edit_check.specs.StandFor.{changes_in, counts_in, found_in};
 
     /// The changes, in the order of their lines.
     pub fn changes(&self) -> &Changes
@@ -51,6 +56,20 @@ impl Checked {
         ensures { result ≡ counts_in self.now }
     {
         self.counts
+    }
+
+    /// What the changes replace: each path with the line that replaces it, in the order of the lines.
+    pub fn victims(&self) -> &[(u32, Path)]
+        ensures { result.now ≡ victims_of (found_in self.now) (rows_in (changes_in self.now)) }
+    {
+        &self.victims
+    }
+
+    /// The directories that have to be made above new paths and creations, each once, in the order of their paths.
+    pub fn missing(&self) -> &[Path]
+        ensures { AreMissing (found_in self.now) (rows_in (changes_in self.now)) result.now }
+    {
+        &self.missing
     }
 
     /// The new place of a path of the tree, or None where it is replaced or removed, or has more than 4,095 bytes.

@@ -1,12 +1,14 @@
 // What holds of changes that were checked.
-ghost use Rattle.edit_check.specs.StandFor.{CanBeMadeWhereItStands, CountedWhereItStands, IsChecked};
+ghost use Rattle.edit_check.specs.StandFor.{CanBeMadeWhereItStands, CountedWhereItStands, IsChecked, ListedWhereItStands};
 
 use crate::Checked;
 
-/// A `Checked` stands for each tree that has its findings: there the changes can be made, and the counts are theirs.
+/// A `Checked` stands for each tree that has its findings: there the changes can be made, and the counts, the victims and the
+/// missing directories are theirs.
 pub fn changes_can_be_made_where_it_stands(checked: &Checked)
     ensures made { CanBeMadeWhereItStands checked.now }
     ensures counted { CountedWhereItStands checked.now }
+    ensures listed { ListedWhereItStands checked.now }
 {
     let _changes = &checked.changes;
 }

@@ -3,8 +3,6 @@
 
 mod checked;
 mod laws;
-#[cfg(test)]
-mod tests;
 mod verdict;
 
 pub use checked::Checked;

@@ -17,7 +17,7 @@ ghost use Rattle.edit_check.specs.StandFor.{StandsFor, changes_in, confirmed_in,
 use crate::Checked;
 use dired_text::Memory;
 use edit_looks::look_for_rows;
-use edit_rules::{Table, counts, first_refusal};
+use edit_rules::{Table, counts, first_refusal, missing_by_path, victims_by_line};
 use edit_words::{CheckFault, Findings, rows_of};
 use std::alloc::Global;
 use tree_core::{Changes, Confirmed, Items, Tree};
@@ -80,6 +80,8 @@ fn decide(
         return Err(fault);
     }
     let counts = counts(alloc, &table, &findings)?;
+    let victims = victims_by_line(alloc, &table, &findings)?;
+    let missing = missing_by_path(alloc, &table, &findings)?;
     Ok(Checked {
         alloc,
         changes,
@@ -87,6 +89,8 @@ fn decide(
         findings,
         table,
         counts,
+        victims,
+        missing,
     })
 }
 

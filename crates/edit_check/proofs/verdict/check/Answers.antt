@@ -1,4 +1,5 @@
 use Rattle.std.proofs.Common.{rules, ◌≡◌, ◌⊎◌, List, None, Some, ap, ◌∙◌, subst}
+use Rattle.std.proofs.lemmas.Result.{err_from_is_err_and}
 use Rattle.tree_core.specs.FileTree.{IsTree}
 use Rattle.tree_core.specs.History.{current_tree}
 use Rattle.edit_check.specs.Checks.{IsAnswer}
@@ -11,7 +12,7 @@ use Rattle.edit_words.specs.Refusals.{refusal}
 use Rattle.edit_words.specs.Rows.{rows}
 use Rattle.edit_words.specs.Sight.{sight_of}
 use Rattle.edit_words.specs.WellFormed.{CanBeMade}
-use Rattle.edit_check.proofs.CheckLemmas.{answered, err_map, faults_by, free, looked_by, looks_by, made, names_none, ok_map}
+use Rattle.edit_check.proofs.CheckLemmas.{answered, end_answered, err_map, faults_by, free, looked_by, looks_by, made, names_none, ok_map}
 use Rattle.edit_check.proofs.SameSight.{counts_seen, refusal_seen}
 use Rattle.edit_check.proofs.verdict.check.Goals as goal
 
@@ -63,7 +64,7 @@ pub returns-clause-faults : goal.returns-clause-faults
 returns-clause-faults g c =
     let findings = c.in_ok-findings.findings in
     let listed = c.in_ok-table.table.rows.items in
-    faults_by c.decide.result _ _ c.in_ok-findings.ensures.faults
+    faults_by c.decide.result (g.T.Tree.faults c.args.tree.now) (g.T.Tree.faults c.look_for_rows.new.tree) c.in_ok-findings.ensures.faults
     (err_map c.decide.result (λ f. (f ≡ fault.Memory) ⊎ (refusal (sight_in findings) c.args.confirmed.now listed ≡ Some f)) (λ f. failed_call f ≡ None) (names_none (sight_in findings) c.args.confirmed.now listed) c.decide.ensures.refused)
 
 pub returns-clause-looks : goal.returns-clause-looks
@@ -81,3 +82,10 @@ returns-clause-answer g c =
     err_map c.decide.result (λ f. (f ≡ fault.Memory) ⊎ (refusal (sight_in findings) c.args.confirmed.now listed ≡ Some f)) (IsAnswer c.args.confirmed.now (rows c.args.changes))
     (λ f cause. answered (sight_in findings) c.args.confirmed.now listed (rows c.args.changes) f rows_are cause)
     c.decide.ensures.refused
+
+pub returns-in_err-findings-clause-answer : goal.returns-in_err-findings-clause-answer
+returns-in_err-findings-clause-answer g c =
+    let rows_are : c.deref.result.now ≡ rows c.args.changes = search rules in
+    let e = c.in_err-findings.field-0.0 in
+    let p = err_from_is_err_and c.from_residual-in_err-findings.result c.from_residual-in_err-findings.ensures.1 in
+    rw (p.1, p.2) (subst (λ (rs : List Row). IsAnswer c.args.confirmed.now rs e) rows_are (end_answered c.args.confirmed.now c.deref.result.now e c.in_err-findings.ensures.end))
