@@ -1,6 +1,6 @@
 #!/usr/bin/env python3
 """Random edits of a printed buffer: each run of `commit` ends with a status of the program's own, 0 to 25. And a buffer of
-200,000 lines is read, while one of 200,001 is too large, status 18.
+400,000 lines is read, while one of 400,001 is too large, status 18.
 
 fuzz-edits.py PROGRAM [COUNT] [SEED]
 
@@ -74,7 +74,7 @@ def main():
     with tempfile.TemporaryDirectory() as work:
         tree = os.path.join(work, "tree")
         os.mkdir(tree)
-        for lines, too_large in ((200_000, False), (200_001, True)):
+        for lines, too_large in ((400_000, False), (400_001, True)):
             done = commit(program, work, of_lines(lines), b"")
             if (done.returncode == 18) != too_large:
                 print(f"FAILED: {lines} lines give status {done.returncode}")

@@ -10,7 +10,7 @@ Files = List ℕ → Option (List ℕ)
 
 -- the limit of 32 MiB on the bytes of one buffer
 abbrev pub max_buffer_bytes : ℕ
-max_buffer_bytes = 33_554_432
+max_buffer_bytes = 67_108_864
 
 abbrev pub bytes_or_refusal : List ℕ → Option (List ℕ) → Result (List ℕ) Status
 bytes_or_refusal name None = Err (Missing name)

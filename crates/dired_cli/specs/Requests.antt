@@ -29,7 +29,7 @@ edits_status edits.Memory = Memory
 abbrev pub Asked : Type 0
 Asked = Result Request Status
 
--- all edits, unless there are more than 65,536
+-- all edits, unless there are more than 262,144
 abbrev pub of_asks : Confirmed → Asks → Asked
 of_asks confirmed asks =
     if nat_lt max_changes (length asks.edits) then Err (TooLarge Edits (length asks.edits))

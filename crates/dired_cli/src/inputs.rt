@@ -9,7 +9,7 @@ use dired_text::{Bytes, Shelf, ShelfEnd, Text};
 use std::alloc::Global;
 
 /// The most bytes of one buffer.
-pub const MAX_BUFFER_BYTES: u64 = 33_554_432;
+pub const MAX_BUFFER_BYTES: u64 = 67_108_864;
 
 /// The bytes of a buffer.
 ///

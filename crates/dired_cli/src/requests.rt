@@ -17,7 +17,7 @@ use tree_core::{Confirmed, Edit, Items};
 use wdired_buffer::{BufferFault, EditsFault, edits, read_buffer};
 
 // The most edits of one commit.
-const MAX_EDITS: usize = 65_536;
+const MAX_EDITS: usize = 262_144;
 
 /// What two buffers ask for, with what was confirmed.
 #[derive(Debug, Drop)]

@@ -16,7 +16,7 @@ use Rattle.edit_words.specs.Place.{routed, place}
 use Rattle.edit_words.specs.Rows.{rows, is_same_path, row_from, written, is_elsewhere, is_elsewhere_of, last_name, route_to, route_by, route_of}
 use Rattle.edit_words.specs.Edited.{node_number, number_in, is_number, mode_named, mode_of_row, with_new_mode}
 use Rattle.edit_words.specs.WellFormed.{IsWellFormed, CanBeAsked, HasNumber}
-use Rattle.edit_laws.specs.Lines.{IsCarriedOut, GivesMode}
+use Rattle.edit_laws.specs.Lines.{IsCarriedOut, HasNewPlaces, GivesMode}
 use Rattle.edit_laws.proofs.ListLemmas.{contains_head, contains_tail, contains_none, contains_cases}
 use Rattle.edit_laws.proofs.PlaceLemmas.{by_last, place-push}
 use Rattle.edit_laws.proofs.PlacedIsTree.{some_of}
@@ -160,8 +160,25 @@ module _ (t : FileTree) (changes : Changes) (asked : CanBeAsked (IsFile t) chang
 
   pub carried_out : IsCarriedOut t (rows changes) r s
   carried_out = record {
-    far = carried_far;
-    near = carried_near;
+    elsewhere = carried_far;
+    in_place = carried_near;
     still = λ to. place_is Stays (ap (route_to s) to);
     mode = carried_mode;
   }
+
+-- ---- the new place by its cases
+
+other_place : (rs : List Row) (p : Names) → p ≢ [] → ((r : Row) → Contains rs r → r.source ≡ Some p → r.to ≡ None) → place (route_of rs) p ≡ place (route_of rs) (parent p) ++ last_name p ∷ []
+other_place rs p some none = place_by (route_of rs) p some ∙ ap (λ (a : Route). routed a (place (route_of rs) (parent p)) (last_name p)) (by_row (row_from rs p) refl)
+  where
+    by_row : (o : Option Row) → row_from rs p ≡ o → route_of rs p ≡ Stays
+    by_row None is = ap (route_by p) is
+    by_row (Some r) is = let found = row_from-some rs p r is in ap (route_by p) is ∙ ap (route_to p) (none r found.0 found.1)
+
+pub by_cases : (t : FileTree) (changes : Changes) → CanBeAsked (IsFile t) changes → IsWellFormed t (rows changes) → HasNewPlaces (rows changes)
+by_cases t changes asked fine = record {
+  root = refl;
+  in_place = λ r p w listed source to here. ((carried_out t changes asked fine r p listed source).in_place w to here).1;
+  elsewhere = λ r p listed source far. (carried_out t changes asked fine r p listed source).elsewhere far;
+  other = other_place (rows changes);
+}

@@ -183,7 +183,7 @@ split_listing s later text sound is =
 
 -- no section has more lines than the whole
 abbrev IsFew : Section → Type 0
-IsFew s = length s.1 ≤ 200_000
+IsFew s = length s.1 ≤ 400_000
 
 section_length : (s : Section) → length (section_lines (printed s)) ≡ length s.1 + 2
 section_length s =
@@ -191,14 +191,14 @@ section_length s =
     let rows : length (unmarked s.1) ≡ length s.1 = length-map s.1 _ in
     omega (arith, files, rows)
 
-few_later : (later : List Section) → length (flat_map (λ (t : Section). [] ∷ section_lines (printed t)) later) ≤ 200_000 → AllByRecursion IsFew later
+few_later : (later : List Section) → length (flat_map (λ (t : Section). [] ∷ section_lines (printed t)) later) ≤ 400_000 → AllByRecursion IsFew later
 few_later [] few = tt
 few_later (t ∷ later) few =
     let both : length (([] ∷ section_lines (printed t)) ++ flat_map (λ (u : Section). [] ∷ section_lines (printed u)) later) ≡ length ([] ∷ section_lines (printed t)) + length (flat_map (λ (u : Section). [] ∷ section_lines (printed u)) later) = length-append ([] ∷ section_lines (printed t)) _ in
     let one = section_length t in
     ((omega (arith, both, one, few)), few_later later (omega (arith, both, few)))
 
-few_each : (s : Section) (later : List Section) (all : List (List ℕ)) → all ≡ codes "dired 1" ∷ (section_lines (printed s) ++ flat_map (λ (t : Section). [] ∷ section_lines (printed t)) later) → length all ≤ 200_000 → AllByRecursion IsFew (s ∷ later)
+few_each : (s : Section) (later : List Section) (all : List (List ℕ)) → all ≡ codes "dired 1" ∷ (section_lines (printed s) ++ flat_map (λ (t : Section). [] ∷ section_lines (printed t)) later) → length all ≤ 400_000 → AllByRecursion IsFew (s ∷ later)
 few_each s later all is few =
     let whole = ap length is in
     let both : length (section_lines (printed s) ++ flat_map (λ (u : Section). [] ∷ section_lines (printed u)) later) ≡ length (section_lines (printed s)) + length (flat_map (λ (u : Section). [] ∷ section_lines (printed u)) later) = length-append (section_lines (printed s)) _ in

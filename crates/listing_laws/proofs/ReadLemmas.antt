@@ -125,7 +125,7 @@ entry-read number dir mark line widths low high lawful is short =
     subst (λ r. IsEntryOf number (line_text_of mark line widths) (as_shown line) r (entry_of number dir (line_text_of mark line widths))) (resolved-name dir line.name is short) alike
 
 -- the total
-pub total-read : (n : ℕ) → n ≤ 200_000 → is_total (total_text_of n) ≡ true
+pub total-read : (n : ℕ) → n ≤ 400_000 → is_total (total_text_of n) ≡ true
 unfolding is_total total_text_of
 total-read n few =
     let low : n < 2 ^ 64 = omega arith in

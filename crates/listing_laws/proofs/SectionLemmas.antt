@@ -29,7 +29,7 @@ pub record IsRow (dir : Names) (line : Line) : Type 0 where
 pub record IsReadable (s : Section) : Type 0 where
   pub dir : IsPathText s.0
   pub rows : AllByRecursion (IsRow s.0) s.1
-  pub few : length s.1 ≤ 200_000
+  pub few : length s.1 ≤ 400_000
 
 -- lines from this number on are read where this is due, and show these entries
 abbrev pub Reads : ℕ → Due → List (List ℕ) → List Listed → Type 0
@@ -90,7 +90,7 @@ section_read s tail entries readable later n =
     let widths = widths_of (unmarked s.1) in
     let rows : (m : ℕ) → Reads m (due.Rows dir) (map (λ (listed : ℕ × Line). line_text_of listed.0 listed.1 widths) (unmarked s.1) ++ tail) (shown_in s ++ entries) = λ m.
     subst (λ (texts : List (List ℕ)). Reads m (due.Rows dir) (texts ++ tail) (shown_in s ++ entries)) (sym (unmarked_texts widths s.1)) (rows_read dir widths s.1 tail entries readable.rows later m) in
-    let few : length (unmarked s.1) ≤ 200_000 = (let same = unmarked_length s.1 in let most = readable.few in omega arith) in
+    let few : length (unmarked s.1) ≤ 400_000 = (let same = unmarked_length s.1 in let most = readable.few in omega arith) in
     one_read n due.Header (due.Total dir) (header_text_of dir) (Header (header_text_of dir) dir) (total_text_of (length (unmarked s.1)) ∷ (map (λ (listed : ℕ × Line). line_text_of listed.0 listed.1 widths) (unmarked s.1) ++ tail)) (shown_in s ++ entries)
     (header_line n (header_text_of dir) (Header (header_text_of dir) dir) (due.Total dir) (header-read n dir readable.dir.0 readable.dir.1))
     (one_read (n + 1) (due.Total dir) (due.Rows dir) (total_text_of (length (unmarked s.1))) (Fixed (total_text_of (length (unmarked s.1)))) (map (λ (listed : ℕ × Line). line_text_of listed.0 listed.1 widths) (unmarked s.1) ++ tail) (shown_in s ++ entries)

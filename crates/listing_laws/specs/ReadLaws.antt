@@ -24,7 +24,7 @@ EntriesComeBack = (number : ℕ) (dir : Names) (mark : ℕ) (line : Line) (width
 
 -- a total is read as one
 abbrev pub TotalsComeBack : Type 0
-TotalsComeBack = (n : ℕ) → n ≤ 200_000 → is_total (total_text_of n) ≡ true
+TotalsComeBack = (n : ℕ) → n ≤ 400_000 → is_total (total_text_of n) ≡ true
 
 -- the text of a path names that path from the root
 abbrev pub PathsResolve : Type 0

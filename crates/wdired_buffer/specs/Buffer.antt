@@ -92,7 +92,7 @@ lines_from number due (text ∷ texts) = do
 
 -- the most lines that a buffer may have
 abbrev pub max_lines : ℕ
-max_lines = 200_000
+max_lines = 400_000
 
 abbrev pub buffer_of : List ℕ → Result (List BufferLine) BufferFault
 buffer_of bytes =

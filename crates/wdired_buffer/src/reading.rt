@@ -20,13 +20,13 @@ use tree_core::{Kind, Shown};
 const FORMAT: &[u8] = b"dired 1";
 
 // The most lines that a buffer may have.
-const MAX_LINES: usize = 200_000;
+const MAX_LINES: usize = 400_000;
 
 /// The lines of a buffer. The first is `dired 1`; one or more sections follow, with an empty line between two. A section
 /// is its header, its total, and a line for each file. A newline may be missing behind the last line.
 ///
 /// # Errors
-/// `TooManyLines` where there are more than 200,000 lines, before all else. Otherwise `Bad` with the first line that
+/// `TooManyLines` where there are more than 400,000 lines, before all else. Otherwise `Bad` with the first line that
 /// isn't of the form, which is the one behind the last where the text ends too early.
 pub fn read_buffer(alloc: Global, bytes: &[u8]) -> Result<Vec<BufferLine>, BufferFault>
     requires { length bytes.now < 4294967295 }
