@@ -38,12 +38,11 @@ held files name bytes is short = ap (bytes_or_refusal name) is ∙ cond-false _ 
 -- an edit that asks for no target and no mode asks for a new path
 has_path : (e : Edit) (o : Option Names) → e.to ≡ o → IsEdit e → is_some e.target ≡ false → is_some e.mode ≡ false → (to : Names) × (e.to ≡ Some to)
 has_path e (Some to) is asked no_target no_mode = (to, is)
-has_path e None is asked no_target no_mode = absurd (by_asked asked.asks)
+has_path e None is asked no_target no_mode = absurd (by_none (
+    ap (λ (o : Option Names). is_some o || is_some e.target || is_some e.mode) is ∙ ap (λ (b : Bool). b || is_some e.mode) no_target ∙ no_mode))
   where
-    by_asked : IsTrue (is_some e.to) ⊎ (IsTrue (is_some e.target) ⊎ IsTrue (is_some e.mode)) → ⊥
-    by_asked (inl to) = let wrong : true ≡ false = sym to ∙ ap is_some is in cc
-    by_asked (inr (inl target)) = let wrong : true ≡ false = sym target ∙ no_target in cc
-    by_asked (inr (inr mode)) = let wrong : true ≡ false = sym mode ∙ no_mode in cc
+    by_none : (is_some e.to || is_some e.target || is_some e.mode) ≡ false → ⊥
+    by_none none = let wrong : true ≡ false = sym asked.asks ∙ none in cc
 
 -- whether a row has a new path
 abbrev Moves : Row → Bool

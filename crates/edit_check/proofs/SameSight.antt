@@ -21,7 +21,7 @@ use Rattle.edit_words.specs.Refusals.{staging, first_fault, fault_if, is_as_show
 use Rattle.edit_words.specs.Counting.{different, counts_of}
 use Rattle.edit_words.specs.Found.{sight_in, HasFindings, IsSeen, IsCovered}
 use Rattle.edit_words.proofs.AboveLemmas.{above_decides, ancestors_above}
-use Rattle.edit_rules.specs.Plans.{AreMissing, victims_of}
+use Rattle.edit_rules.specs.Plans.{AreMissing, AreModes, ModeChange, is_line, mode_change_by, mode_change_of, names_place, victims_of}
 use Rattle.edit_words.specs.Rows.{is_same_path}
 use Rattle.edit_words.proofs.FindLemmas.{contains_head, contains_tail}
 use Rattle.edit_words.proofs.FindingsLemmas.{told_found}
@@ -241,4 +241,22 @@ missing_seen f s rs ps has covered missing =
     record {
       sorted = missing.sorted;
       same = λ p. missing.same p ∙ ap (λ (l : List Names). list_any (is_same_path p) l) (flat_map_alike _ _ rs (λ r c. missing_same (sight_in f) s r (all.rows r c)));
+    }
+
+names_place_alike : (s u : Sight) (rs : List Row) (r : Row) → AgreeOn s u rs → (number : Option ℕ) → names_place s rs r number ≡ names_place u rs r number
+names_place_alike s u rs r all None = refl
+names_place_alike s u rs r all (Some number) = ap (is_line r.line) (line_where_alike _ _ rs (λ o c.
+    ap (λ (n : Option ℕ). are_same (Some number) n && is_some o.mode) (number_same s u o.source (all.rows o c).source)))
+
+mode_change_same : (s u : Sight) (rs : List Row) (r : Row) → AgreeOn s u rs → Agree s u r → mode_change_of s rs r ≡ mode_change_of u rs r
+mode_change_same s u rs r all a =
+    ap (λ (n : Option ℕ). mode_change_by rs (names_place s rs r n) r.source r.was r.mode) (number_same s u r.source a.source)
+    ∙ ap (λ (b : Bool). mode_change_by rs b r.source r.was r.mode) (names_place_alike s u rs r all (number_at u r.source))
+
+pub modes_seen : (f : Findings) (s : Sight) (rs : List Row) (ms : List ModeChange) → HasFindings f s → IsCovered f rs → AreModes (sight_in f) rs ms → AreModes s rs ms
+modes_seen f s rs ms has covered modes =
+    let all = findings_agree f s rs has covered in
+    record {
+      sorted = modes.sorted;
+      same = λ test. modes.same test ∙ ap (λ (l : List ModeChange). count_by test l) (filter_map_alike _ _ rs (λ r c. mode_change_same (sight_in f) s rs r all (all.rows r c)));
     }

@@ -17,7 +17,7 @@ use Rattle.edit_words.specs.declared.findings.Findings.{Findings}
 use Rattle.edit_words.specs.Found.{IsClosed, IsCovered}
 use Rattle.edit_words.specs.WellFormed.{AreAsked, AreLawful, IsEdit, IsFreshIn}
 use Rattle.edit_words.specs.Sight.{Sight}
-use Rattle.edit_rules.specs.Plans.{AreMissing}
+use Rattle.edit_rules.specs.Plans.{AreMissing, AreModes, ModeChange}
 use Rattle.edit_rules.specs.declared.table.Table.{Table}
 use Rattle.edit_rules.specs.Tables.{IsTable}
 
@@ -32,6 +32,9 @@ IsClosed-prop f = hlevel props
 
 pub AreMissing-prop : (sight : Sight) (rs : List Row) (ps : List Names) → IsProp (AreMissing sight rs ps)
 AreMissing-prop sight rs ps = hlevel (props, IsStrictlySortedBy-prop)
+
+pub AreModes-prop : (sight : Sight) (rs : List Row) (ms : List ModeChange) → IsProp (AreModes sight rs ms)
+AreModes-prop sight rs ms = hlevel props
 
 -- ---- What can be asked for is one fact.
 

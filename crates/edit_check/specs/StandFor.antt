@@ -12,7 +12,7 @@ use Rattle.edit_words.specs.Place.{IsAbove}
 use Rattle.edit_words.specs.Refusals.{refusal}
 use Rattle.edit_words.specs.Rows.{rows}
 use Rattle.edit_words.specs.Sight.{Sight, is_dir, sight_of}
-use Rattle.edit_rules.specs.Plans.{AreMissing, victims_of}
+use Rattle.edit_rules.specs.Plans.{AreMissing, AreModes, ModeChange, victims_of}
 use Rattle.edit_words.specs.WellFormed.{AreAsked, CanBeMade}
 
 -- what a check keeps
@@ -48,8 +48,11 @@ CanBeMadeWhereItStands checked = (t : FileTree) → IsTree t → StandsFor check
 abbrev pub CountedWhereItStands : Checked → Type 0
 CountedWhereItStands checked = (t : FileTree) → StandsFor checked t → counts_in checked ≡ counts_of (sight_of t) (rows (changes_in checked))
 
--- and so are what they replace and the directories that they make
+-- and so are what they replace, the directories that they make and the modes that they change
+pub record IsListedFor (checked : Checked) (t : FileTree) : Type 0 where
+  pub victims : victims_of (found_in checked) (rows (changes_in checked)) ≡ victims_of (sight_of t) (rows (changes_in checked))
+  pub missing : (ps : List Names) → AreMissing (found_in checked) (rows (changes_in checked)) ps → AreMissing (sight_of t) (rows (changes_in checked)) ps
+  pub modes : (ms : List ModeChange) → AreModes (found_in checked) (rows (changes_in checked)) ms → AreModes (sight_of t) (rows (changes_in checked)) ms
+
 abbrev pub ListedWhereItStands : Checked → Type 0
-ListedWhereItStands checked = (t : FileTree) → StandsFor checked t
-    → (victims_of (found_in checked) (rows (changes_in checked)) ≡ victims_of (sight_of t) (rows (changes_in checked)))
-    × ((ps : List Names) → AreMissing (found_in checked) (rows (changes_in checked)) ps → AreMissing (sight_of t) (rows (changes_in checked)) ps)
+ListedWhereItStands checked = (t : FileTree) → StandsFor checked t → IsListedFor checked t

@@ -4,11 +4,11 @@ ghost use Rattle.dired_text.specs.Paths.{Names};
 ghost use Rattle.edit_words.specs.Rows.{rows as rows_in};
 ghost use Rattle.edit_rules.specs.Tables.{IsTable};
 ghost use Rattle.edit_words.specs.Found.{sight_in, IsClosed, IsCovered};
-ghost use Rattle.edit_check.specs.Facts.{AreAsked-prop, AreMissing-prop, IsClosed-prop, IsCovered-prop, IsTable-prop};
+ghost use Rattle.edit_check.specs.Facts.{AreAsked-prop, AreMissing-prop, AreModes-prop, IsClosed-prop, IsCovered-prop, IsTable-prop};
 ghost use Rattle.edit_words.specs.Refusals.{refusal};
 ghost use Rattle.edit_words.specs.WellFormed.{AreAsked};
 ghost use Rattle.edit_words.specs.Counting.{counts_of};
-ghost use Rattle.edit_rules.specs.Plans.{AreMissing, victims_of};
+ghost use Rattle.edit_rules.specs.Plans.{AreMissing, AreModes, victims_of};
 ghost use Rattle.edit_check.specs.Checks.{new_place_of};
 
 use dired_text::{Memory, Path};
@@ -29,6 +29,7 @@ pub struct Checked {
     pub(crate) counts: Counts,
     pub(crate) victims: Vec<(u32, Path)>,
     pub(crate) missing: Vec<Path>,
+    pub(crate) modes: Vec<(Path, u16, u16)>,
     ghost rows_are: { table.rows.items ≡ rows_in changes },
     ghost table_is: { IsTable table } by { IsTable-prop table },
     ghost covered: { IsCovered findings table.rows.items } by { IsCovered-prop findings table.rows.items },
@@ -38,6 +39,7 @@ pub struct Checked {
     ghost counted: { counts ≡ counts_of (sight_in findings) table.rows.items },
     ghost replaced: { victims.items ≡ victims_of (sight_in findings) table.rows.items },
     ghost made: { AreMissing (sight_in findings) table.rows.items missing.items } by { AreMissing-prop (sight_in findings) table.rows.items missing.items },
+    ghost set: { AreModes (sight_in findings) table.rows.items modes.items } by { AreModes-prop (sight_in findings) table.rows.items modes.items },
 }
 
 impl Checked {
@@ -70,6 +72,14 @@ impl Checked {
         ensures { AreMissing (found_in self.now) (rows_in (changes_in self.now)) result.now }
     {
         &self.missing
+    }
+
+    /// The modes that change: the new place of what has a new mode, its old mode and its new one, each at most 0o7777. Places of more
+    /// names come first, and places of as many in the order of paths. Of the lines of one file number the least names the place.
+    pub fn modes(&self) -> &[(Path, u16, u16)]
+        ensures { AreModes (found_in self.now) (rows_in (changes_in self.now)) result.now }
+    {
+        &self.modes
     }
 
     /// The new place of a path of the tree, or None where it is replaced or removed, or has more than 4,095 bytes.

@@ -3,8 +3,8 @@ ghost use Rattle.edit_check.specs.StandFor.{CanBeMadeWhereItStands, CountedWhere
 
 use crate::Checked;
 
-/// A `Checked` stands for each tree that has its findings: there the changes can be made, and the counts, the victims and the
-/// missing directories are theirs.
+/// A `Checked` stands for each tree that has its findings: there the changes can be made, and the counts, the victims, the
+/// missing directories and the modes that change are theirs.
 pub fn changes_can_be_made_where_it_stands(checked: &Checked)
     ensures made { CanBeMadeWhereItStands checked.now }
     ensures counted { CountedWhereItStands checked.now }

@@ -17,7 +17,7 @@ ghost use Rattle.edit_check.specs.StandFor.{StandsFor, changes_in, confirmed_in,
 use crate::Checked;
 use dired_text::Memory;
 use edit_looks::look_for_rows;
-use edit_rules::{Table, counts, first_refusal, missing_by_path, victims_by_line};
+use edit_rules::{Table, counts, first_refusal, missing_by_path, modes_by_depth, victims_by_line};
 use edit_words::{CheckFault, Findings, rows_of};
 use std::alloc::Global;
 use tree_core::{Changes, Confirmed, Items, Tree};
@@ -82,6 +82,7 @@ fn decide(
     let counts = counts(alloc, &table, &findings)?;
     let victims = victims_by_line(alloc, &table, &findings)?;
     let missing = missing_by_path(alloc, &table, &findings)?;
+    let modes = modes_by_depth(alloc, &table, &findings)?;
     Ok(Checked {
         alloc,
         changes,
@@ -91,6 +92,7 @@ fn decide(
         counts,
         victims,
         missing,
+        modes,
     })
 }
 

@@ -133,12 +133,6 @@ same_self path = (slice_eq-Decides bytes_eq-Decides path path (same_path path pa
 pub test_false : (b : Bool) → b ≡ false → b ≡ true → ⊥
 test_false b no' yes' = let both : true ≡ false = sym yes' ∙ no' in cc
 
-any_of : (a b c : Bool) → (a || b || c) ≡ true → IsTrue a ⊎ (IsTrue b ⊎ IsTrue c)
-any_of true b c is = inl refl
-any_of false true c is = inr (inl refl)
-any_of false false true is = inr (inr refl)
-any_of false false false is = cc
-
 -- the edit of an entry's line, before it is known whether it asks for anything
 abbrev edit_of : ℕ → Names → Shown → Typed → Edit
 edit_of number source was typed = record {
@@ -153,7 +147,7 @@ edit_of number source was typed = record {
 -- where it does, it is lawful
 typed_edit : (number : ℕ) (source : Names) (was : Shown) (typed : Typed) → IsTyped was typed → (is_some (edit_of number source was typed).to || is_some (edit_of number source was typed).target || is_some (edit_of number source was typed).mode) ≡ true → IsEdit (edit_of number source was typed)
 typed_edit number source was typed is asks = record {
-  asks = any_of (is_some (edit_of number source was typed).to) (is_some (edit_of number source was typed).target) (is_some (edit_of number source was typed).mode) asks;
+  asks = asks;
   to = λ same. test_false (same_path source source) (changed_some same_path source typed.path source same).1 (same_self source);
   target = λ target here.
       let parts = changed_some bytes_eq was.target typed.target target here in

@@ -1,4 +1,4 @@
 pub mod Claims
 pub mod PathSets
-pub mod Plans
 pub mod Tables
+pub mod Plans

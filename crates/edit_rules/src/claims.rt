@@ -135,6 +135,13 @@ impl FileClaims {
         Ok(())
     }
 
+    /// The first line that claims the file.
+    pub fn first(&self, number: u64) -> Option<u32>
+        ensures { result ≡ first_line (get nat_cmp self.now.claims number) }
+    {
+        self.claims.get(&number).map(|claim| claim.line)
+    }
+
     /// The first line that claims the file with another value than this one.
     pub fn other(&self, number: u64, value: u32) -> Option<u32>
         ensures { result ≡ other_line (get nat_cmp self.now.claims number) value }

@@ -5,6 +5,7 @@ mod bytes;
 mod claims;
 mod counting;
 mod lists;
+mod modes;
 mod places;
 mod refusal;
 mod rules;
@@ -13,6 +14,7 @@ mod victims;
 
 pub use counting::counts;
 pub use lists::{missing_by_path, victims_by_line};
+pub use modes::modes_by_depth;
 pub use places::place;
 pub use refusal::first_refusal;
 pub use table::Table;

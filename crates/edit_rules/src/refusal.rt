@@ -133,8 +133,8 @@ fn too_many_bytes(
     Ok(None)
 }
 
-// The modes that lines name for each file.
-fn file_modes_of(alloc: Global, rows: &[Row], findings: &Findings) -> Result<FileClaims, Memory>
+/// The modes that lines name for each file.
+pub fn file_modes_of(alloc: Global, rows: &[Row], findings: &Findings) -> Result<FileClaims, Memory>
     ensures { IfOk result (λ modes. AreFileModes (sight_in findings.now) modes.claims rows.now) }
 {
     let mut modes = FileClaims::new(alloc);
