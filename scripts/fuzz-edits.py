@@ -1,6 +1,6 @@
 #!/usr/bin/env python3
 """Random edits of a printed buffer: each run of `commit` ends with a status of the program's own, 0 to 25. And a buffer of
-200,000 lines is read, while one of 200,001 is too large, status 18.
+400,000 lines is read, while one of 400,001 is too large, status 18.
 
 fuzz-edits.py PROGRAM [COUNT] [SEED]
 

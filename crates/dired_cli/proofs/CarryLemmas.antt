@@ -9,14 +9,14 @@ use Rattle.tree_core.specs.declared.meta.Meta.{Meta}
 use Rattle.tree_core.specs.FileTree.{FileTree, IsTree, Stands, CanRename, renamed}
 use Rattle.tree_core.proofs.TreeLemmas.{dir_stands, absent_not}
 use Rattle.tree_core.specs.History.{History, current_tree, LeavesOnly}
-use Rattle.edit_check.specs.declared.counts.Counts.{Counts}
-use Rattle.edit_check.specs.declared.fault.CheckFault.{CheckFault}
-use Rattle.edit_check.specs.Counting.{counts_of}
-use Rattle.edit_check.specs.declared.row.Row.{Row}
-use Rattle.edit_check.specs.Rows.{rows, edit_row}
-use Rattle.edit_check.specs.Sight.{sight_of}
-use Rattle.edit_check.specs.WellFormed.{AreAsked, CanBeMade}
-use Rattle.edit_check.proofs.WellFormedLemmas.{taken_alone}
+use Rattle.edit_words.specs.declared.counts.Counts.{Counts}
+use Rattle.edit_words.specs.declared.fault.CheckFault.{CheckFault}
+use Rattle.edit_words.specs.Counting.{counts_of}
+use Rattle.edit_words.specs.declared.row.Row.{Row}
+use Rattle.edit_words.specs.Rows.{rows, edit_row}
+use Rattle.edit_words.specs.Sight.{sight_of}
+use Rattle.edit_words.specs.WellFormed.{AreAsked, CanBeMade}
+use Rattle.edit_words.proofs.WellFormedLemmas.{taken_alone}
 use Rattle.dired_cli.specs.declared.requests.Request.{Request}
 use Rattle.dired_cli.specs.declared.status.Status.{Status}
 use Rattle.dired_cli.specs.Statuses.{ByCause}

@@ -1,5 +1,5 @@
 -- What is well formed is done, unless a call of the outside fails or memory runs out.
-use Rattle.std.proofs.Common.{◌≡◌, ◌⊎◌, inl, inr, ⊎_elim, ℕ, ◌≤◌, Bool, true, false, ◌&&◌, List, [], ◌∷◌, map, length, refl, sym, ◌∙◌, ap, arith, All, Option, Some, None, is_some, IsTrue, Ok, Err, nat_lt}
+use Rattle.std.proofs.Common.{◌≡◌, ◌⊎◌, inl, inr, ⊎_elim, ℕ, ◌≤◌, Bool, true, false, ◌&&◌, ◌||◌, List, [], ◌∷◌, map, length, refl, sym, ◌∙◌, ap, arith, All, Option, Some, None, is_some, IsTrue, Ok, Err, nat_lt}
 use Rattle.std.proofs.lemmas.Bool.{cond-true, cond-false, le-ltb}
 use Rattle.std.proofs.lemmas.List.Elements.{All-head, All-tail}
 use Rattle.dired_text.specs.Counts.{raised, Stayed}
@@ -11,12 +11,12 @@ use Rattle.tree_core.specs.declared.faults.Faults.{Faults}
 use Rattle.tree_core.specs.FileTree.{FileTree, IsTree}
 use Rattle.tree_core.specs.Faults.{TreeHeld}
 use Rattle.wdired_buffer.specs.Edits.{Asks}
-use Rattle.edit_check.specs.declared.row.Row.{Row}
-use Rattle.edit_check.specs.Counting.{counts_of}
-use Rattle.edit_check.specs.Rows.{rows, edit_row}
-use Rattle.edit_check.specs.Sight.{Sight, sight_of}
-use Rattle.edit_check.specs.WellFormed.{IsEdit, max_changes}
-use Rattle.edit_check.proofs.WellFormedLemmas.{taken_alone}
+use Rattle.edit_words.specs.declared.row.Row.{Row}
+use Rattle.edit_words.specs.Counting.{counts_of}
+use Rattle.edit_words.specs.Rows.{rows, edit_row}
+use Rattle.edit_words.specs.Sight.{Sight, sight_of}
+use Rattle.edit_words.specs.WellFormed.{IsEdit, max_changes}
+use Rattle.edit_words.proofs.WellFormedLemmas.{taken_alone}
 use Rattle.edit_requests.proofs.RequestLemmas.{can_be_asked}
 use Rattle.dired_cli.specs.declared.status.Counted.TheVariants.{Edits as ManyEdits}
 use Rattle.dired_cli.specs.declared.status.Status.{Status}
@@ -38,12 +38,11 @@ held files name bytes is short = ap (bytes_or_refusal name) is ∙ cond-false _ 
 -- an edit that asks for no target and no mode asks for a new path
 has_path : (e : Edit) (o : Option Names) → e.to ≡ o → IsEdit e → is_some e.target ≡ false → is_some e.mode ≡ false → (to : Names) × (e.to ≡ Some to)
 has_path e (Some to) is asked no_target no_mode = (to, is)
-has_path e None is asked no_target no_mode = absurd (by_asked asked.asks)
+has_path e None is asked no_target no_mode = absurd (by_none (
+    ap (λ (o : Option Names). is_some o || is_some e.target || is_some e.mode) is ∙ ap (λ (b : Bool). b || is_some e.mode) no_target ∙ no_mode))
   where
-    by_asked : IsTrue (is_some e.to) ⊎ (IsTrue (is_some e.target) ⊎ IsTrue (is_some e.mode)) → ⊥
-    by_asked (inl to) = let wrong : true ≡ false = sym to ∙ ap is_some is in cc
-    by_asked (inr (inl target)) = let wrong : true ≡ false = sym target ∙ no_target in cc
-    by_asked (inr (inr mode)) = let wrong : true ≡ false = sym mode ∙ no_mode in cc
+    by_none : (is_some e.to || is_some e.target || is_some e.mode) ≡ false → ⊥
+    by_none none = let wrong : true ≡ false = sym asked.asks ∙ none in cc
 
 -- whether a row has a new path
 abbrev Moves : Row → Bool

@@ -5,11 +5,11 @@ use Rattle.std.proofs.lemmas.List.Sums.{length-filter}
 use Rattle.std.proofs.lemmas.Bool.{cond-true, cond-false, cases_Bool, and_parts}
 use Rattle.std.proofs.lemmas.Bool.Decides.{Decides-eqb}
 use Rattle.dired_text.specs.Paths.{Names}
-use Rattle.edit_check.specs.declared.counts.Counts.{Counts}
-use Rattle.edit_check.specs.declared.row.Row.{Row}
-use Rattle.edit_check.specs.Counting.{different}
-use Rattle.edit_check.specs.Rows.{is_same_path}
-use Rattle.edit_check.proofs.FindLemmas.{contains_none, contains_cases}
+use Rattle.edit_words.specs.declared.counts.Counts.{Counts}
+use Rattle.edit_words.specs.declared.row.Row.{Row}
+use Rattle.edit_words.specs.Counting.{different}
+use Rattle.edit_words.specs.Rows.{is_same_path}
+use Rattle.edit_words.proofs.FindLemmas.{contains_none, contains_cases}
 use Rattle.dired_cli.specs.Verdicts.{is_one_name}
 use Rattle.dired_cli.specs.WellFormed.{IsOneNameAtMost}
 

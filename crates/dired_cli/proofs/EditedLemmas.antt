@@ -13,17 +13,17 @@ use Rattle.tree_core.specs.declared.node.Node.{Node}
 use Rattle.tree_core.specs.declared.node.Node.TheVariants.{Dir, Link, File}
 use Rattle.tree_core.specs.FileTree.{FileTree, IsTree, Stands, CanRename, moved, moved_rest, moved_entry, renamed}
 use Rattle.tree_core.proofs.TreeLemmas.{above_stands, dir_stands, absent_not}
-use Rattle.edit_check.specs.declared.row.Row.{Row}
-use Rattle.edit_check.specs.declared.row.Turn.{Turn}
-use Rattle.edit_check.specs.declared.row.Turn.TheVariants.{Stays}
-use Rattle.edit_check.specs.Place.{turned, place, IsAbove, fronts}
-use Rattle.edit_check.specs.Rows.{rows, edit_row, is_same_path, is_at, is_far, is_source, is_kept, written, written_of, turn_of, turn_by, turn_to}
-use Rattle.edit_check.specs.Edited.{Entries, placed_entry, stands, missing, is_fresh, fresh_place_of, fresh_places, added_by, with_new_mode, mode_of_row, is_number, number_at, edited}
-use Rattle.edit_check.proofs.AboveLemmas.{fronts_above}
-use Rattle.edit_check.proofs.FindLemmas.{contains_head, contains_tail}
-use Rattle.edit_check.proofs.TableLemmas.{same_path, same_itself}
+use Rattle.edit_words.specs.declared.row.Row.{Row}
+use Rattle.edit_words.specs.declared.row.Route.{Route}
+use Rattle.edit_words.specs.declared.row.Route.TheVariants.{Stays}
+use Rattle.edit_words.specs.Place.{routed, place, IsAbove, ancestors}
+use Rattle.edit_words.specs.Rows.{rows, edit_row, is_same_path, is_at, is_elsewhere, is_source, is_kept, written, written_of, route_of, route_by, route_to}
+use Rattle.edit_words.specs.Edited.{Entries, placed_entry, stands, missing, is_fresh, fresh_place_of, fresh_places, added_by, with_new_mode, mode_of_row, is_number, number_in, edited}
+use Rattle.edit_words.proofs.AboveLemmas.{ancestors_above}
+use Rattle.edit_words.proofs.FindLemmas.{contains_head, contains_tail}
+use Rattle.edit_words.proofs.SameLemmas.{same_path, same_itself}
 use Rattle.edit_laws.proofs.PlaceLemmas.{by_last, place-push, place-stays}
-use Rattle.edit_laws.proofs.RowLemmas.{turn_to-written}
+use Rattle.edit_laws.proofs.RowLemmas.{route_to-written}
 use Rattle.dired_cli.proofs.RenameLemmas.{last_name}
 
 nothing_kept : (test : Names → Bool) (ps : List Names) → ((p : Names) → Contains ps p → test p ≡ false) → filter test ps ≡ []
@@ -50,8 +50,8 @@ module _ (t : FileTree) (tree : IsTree t) (e : Edit) (to : Names) (is_to : e.to 
   abbrev rs : List Row
   rs = r ∷ []
 
-  abbrev turn : Names → Turn
-  turn = turn_of rs
+  abbrev route : Names → Route
+  route = route_of rs
 
   -- ---- no directory is made
 
@@ -65,20 +65,20 @@ module _ (t : FileTree) (tree : IsTree t) (e : Edit) (to : Names) (is_to : e.to 
   written_to : written r ≡ to
   written_to = ap (written_of (Some e.source)) is_to
 
-  no_front_missing : (p : Names) → Contains (fronts (written r)) p → not (stands t p) ≡ false
-  no_front_missing p listed = ap not (front_stands p ((fronts_above to p).0 (subst (λ (w : Names). Contains (fronts w) p) written_to listed)))
+  no_front_missing : (p : Names) → Contains (ancestors (written r)) p → not (stands t p) ≡ false
+  no_front_missing p listed = ap not (front_stands p ((ancestors_above to p).0 (subst (λ (w : Names). Contains (ancestors w) p) written_to listed)))
 
   none_missing : missing t rs ≡ []
-  none_missing = elim (cases_Bool (is_far r)) [
+  none_missing = elim (cases_Bool (is_elsewhere r)) [
     | inl far ↦
-        ap (λ (l : List Names). filter (λ (p : Names). not (stands t p)) (l ++ [])) (cond-true (is_far r) (fronts (written r)) [] far)
-        ∙ ap (filter (λ (p : Names). not (stands t p))) (append-nil (fronts (written r)))
-        ∙ nothing_kept (λ (p : Names). not (stands t p)) (fronts (written r)) no_front_missing
-    | inr near ↦ ap (λ (l : List Names). filter (λ (p : Names). not (stands t p)) (l ++ [])) (cond-false (is_far r) (fronts (written r)) [] near)
+        ap (λ (l : List Names). filter (λ (p : Names). not (stands t p)) (l ++ [])) (cond-true (is_elsewhere r) (ancestors (written r)) [] far)
+        ∙ ap (filter (λ (p : Names). not (stands t p))) (append-nil (ancestors (written r)))
+        ∙ nothing_kept (λ (p : Names). not (stands t p)) (ancestors (written r)) no_front_missing
+    | inr near ↦ ap (λ (l : List Names). filter (λ (p : Names). not (stands t p)) (l ++ [])) (cond-false (is_elsewhere r) (ancestors (written r)) [] near)
   ]
 
   none_fresh : fresh_places rs ≡ []
-  none_fresh = ap (λ (l : List Row). map (λ (o : Row). fresh_place_of (place turn) o.source o) l) (cond-false (is_fresh r) (r ∷ []) [] (ap (λ b. b || false) no_target))
+  none_fresh = ap (λ (l : List Row). map (λ (o : Row). fresh_place_of (place route) o.source o) l) (cond-false (is_fresh r) (r ∷ []) [] (ap (λ b. b || false) no_target))
 
   nothing_added : added_by t rs [] ≡ []
   nothing_added =
@@ -100,33 +100,33 @@ module _ (t : FileTree) (tree : IsTree t) (e : Edit) (to : Names) (is_to : e.to 
   ]
   same_node p (Link target) = refl
   same_node p (File number bytes mode) =
-      ap (λ (m : Option ℕ). File number bytes (unwrap_or (cond (is_some m && is_number number (number_at t (Some e.source))) m None) mode)) no_mode
+      ap (λ (m : Option ℕ). File number bytes (unwrap_or (cond (is_some m && is_number number (number_in t (Some e.source))) m None) mode)) no_mode
 
   -- ---- each path goes where the rename takes it
 
-  turn_other : (p : Names) → (p ≡ e.source → ⊥) → turn p ≡ Stays
-  turn_other p differs = ap (turn_by p) (cond-false (is_same_path p e.source) (Some r) None (other_path p e.source differs))
+  turn_other : (p : Names) → (p ≡ e.source → ⊥) → route p ≡ Stays
+  turn_other p differs = ap (route_by p) (cond-false (is_same_path p e.source) (Some r) None (other_path p e.source differs))
 
-  turn_source : (p : Names) → p ≡ e.source → turn p ≡ turn_to p (Some to)
-  turn_source p same = ap (turn_by p) (cond-true (is_same_path p e.source) (Some r) None (subst (λ (q : Names). is_same_path p q ≡ true) same (same_itself p))) ∙ ap (turn_to p) is_to
+  turn_source : (p : Names) → p ≡ e.source → route p ≡ route_to p (Some to)
+  turn_source p same = ap (route_by p) (cond-true (is_same_path p e.source) (Some r) None (subst (λ (q : Names). is_same_path p q ≡ true) same (same_itself p))) ∙ ap (route_to p) is_to
 
-  source_goes : place turn e.source ≡ to
+  source_goes : place route e.source ≡ to
   source_goes =
       let l = last_name e.source can.not_root in
-      let front_stays : place turn l.0 ≡ l.0 = place-stays turn l.0 (λ v n rest is. turn_other (v ++ n ∷ []) (λ same. longer l.0 rest l.1 (sym (is ∙ ap (λ (q : Names). q ++ rest) (same ∙ l.2) ∙ append_assoc l.0 (l.1 ∷ []) rest)))) in
-      ap (place turn) l.2
-      ∙ place-push turn l.0 l.1
-      ∙ ap (λ (a : Turn). turned a (place turn l.0) l.1) (turn_source (l.0 ++ l.1 ∷ []) (sym l.2))
-      ∙ ap (λ (q : Names). turned (turn_to (l.0 ++ l.1 ∷ []) (Some to)) q l.1) front_stays
-      ∙ turn_to-written l.0 l.1 to some_to
+      let front_stays : place route l.0 ≡ l.0 = place-stays route l.0 (λ v n rest is. turn_other (v ++ n ∷ []) (λ same. longer l.0 rest l.1 (sym (is ∙ ap (λ (q : Names). q ++ rest) (same ∙ l.2) ∙ append_assoc l.0 (l.1 ∷ []) rest)))) in
+      ap (place route) l.2
+      ∙ place-push route l.0 l.1
+      ∙ ap (λ (a : Route). routed a (place route l.0) l.1) (turn_source (l.0 ++ l.1 ∷ []) (sym l.2))
+      ∙ ap (λ (q : Names). routed (route_to (l.0 ++ l.1 ∷ []) (Some to)) q l.1) front_stays
+      ∙ route_to-written l.0 l.1 to some_to
 
-  below_goes : (rest : Names) → place turn (e.source ++ rest) ≡ to ++ rest
-  below_goes = by_last (λ rest. place turn (e.source ++ rest) ≡ to ++ rest)
-      (ap (place turn) (append-nil e.source) ∙ source_goes ∙ sym (append-nil to))
+  below_goes : (rest : Names) → place route (e.source ++ rest) ≡ to ++ rest
+  below_goes = by_last (λ rest. place route (e.source ++ rest) ≡ to ++ rest)
+      (ap (place route) (append-nil e.source) ∙ source_goes ∙ sym (append-nil to))
       (λ rest n before.
-      ap (place turn) (sym (append_assoc e.source rest (n ∷ [])))
-      ∙ place-push turn (e.source ++ rest) n
-      ∙ ap (λ (a : Turn). turned a (place turn (e.source ++ rest)) n) (turn_other ((e.source ++ rest) ++ n ∷ []) (λ same. not_source rest n (sym (append_assoc e.source rest (n ∷ [])) ∙ same)))
+      ap (place route) (sym (append_assoc e.source rest (n ∷ [])))
+      ∙ place-push route (e.source ++ rest) n
+      ∙ ap (λ (a : Route). routed a (place route (e.source ++ rest)) n) (turn_other ((e.source ++ rest) ++ n ∷ []) (λ same. not_source rest n (sym (append_assoc e.source rest (n ∷ [])) ∙ same)))
       ∙ ap (λ (q : Names). q ++ n ∷ []) before
       ∙ append_assoc to rest (n ∷ []))
     where
@@ -134,14 +134,14 @@ module _ (t : FileTree) (tree : IsTree t) (e : Edit) (to : Names) (is_to : e.to 
       not_source [] n is = longer e.source [] n is
       not_source (x ∷ rest) n is = longer e.source (rest ++ n ∷ []) x is
 
-  goes_by : (p : Names) (o : Option Names) → rest_below e.source p ≡ o → place turn p ≡ moved_rest o to p
-  goes_by p (Some rest) is = ap (place turn) (rest_below-some e.source p rest is) ∙ below_goes rest
-  goes_by p None is = place-stays turn p (λ v n rest here. turn_other (v ++ n ∷ []) (λ same.
+  goes_by : (p : Names) (o : Option Names) → rest_below e.source p ≡ o → place route p ≡ moved_rest o to p
+  goes_by p (Some rest) is = ap (place route) (rest_below-some e.source p rest is) ∙ below_goes rest
+  goes_by p None is = place-stays route p (λ v n rest here. turn_other (v ++ n ∷ []) (λ same.
       let below : rest_below e.source p ≡ Some rest = ap (rest_below e.source) (here ∙ ap (λ (q : Names). q ++ rest) same) ∙ rest_below-append e.source rest in
       let wrong : Some rest ≡ None = sym below ∙ is in
       cc))
 
-  goes : (p : Names) → place turn p ≡ moved e.source to p
+  goes : (p : Names) → place route p ≡ moved e.source to p
   goes p = goes_by p (rest_below e.source p) refl
 
   -- ---- the entries
@@ -149,12 +149,12 @@ module _ (t : FileTree) (tree : IsTree t) (e : Edit) (to : Names) (is_to : e.to 
   abbrev Kept : Entries → Type 0
   Kept es = (p : Names) → IsTrue (is_some (find path_cmp p es)) → is_kept rs p ≡ true
 
-  entries_go : (es : Entries) → Kept es → map (placed_entry (place turn) (with_new_mode t rs)) (filter (λ (x : Names × Node). is_kept rs x.0) es) ≡ map (moved_entry e.source to) es
+  entries_go : (es : Entries) → Kept es → map (placed_entry (place route) (with_new_mode t rs)) (filter (λ (x : Names × Node). is_kept rs x.0) es) ≡ map (moved_entry e.source to) es
   entries_go [] all = refl
   entries_go (x ∷ es) all =
       let here : is_kept rs x.0 ≡ true = all x.0 (ap is_some (cond-true (is_same_path x.0 x.0) (Some x.1) (find path_cmp x.0 es) (same_itself x.0))) in
-      ap (map (placed_entry (place turn) (with_new_mode t rs))) (cond-true (is_kept rs x.0) (x ∷ filter (λ (y : Names × Node). is_kept rs y.0) es) (filter (λ (y : Names × Node). is_kept rs y.0) es) here)
-      ∙ ap (λ (l : Entries). placed_entry (place turn) (with_new_mode t rs) x ∷ l) (entries_go es (λ p some. all p (later p some)))
+      ap (map (placed_entry (place route) (with_new_mode t rs))) (cond-true (is_kept rs x.0) (x ∷ filter (λ (y : Names × Node). is_kept rs y.0) es) (filter (λ (y : Names × Node). is_kept rs y.0) es) here)
+      ∙ ap (λ (l : Entries). placed_entry (place route) (with_new_mode t rs) x ∷ l) (entries_go es (λ p some. all p (later p some)))
       ∙ ap (λ (y : Names × Node). y ∷ map (moved_entry e.source to) es) (ap (λ (q : Names). (q, with_new_mode t rs x.0 x.1)) (goes x.0) ∙ ap (λ (node : Node). (moved e.source to x.0, node)) (same_node x.0 x.1))
     where
       later : (p : Names) → IsTrue (is_some (find path_cmp p es)) → IsTrue (is_some (find path_cmp p (x ∷ es)))
@@ -166,5 +166,5 @@ module _ (t : FileTree) (tree : IsTree t) (e : Edit) (to : Names) (is_to : e.to 
   pub renamed_is_edited : renamed t e.source to ≡ edited t (rows (Edits (e ∷ []))) []
   unfolding renamed
   renamed_is_edited = sym (
-      ap (λ (l : Entries). from_entries {R = path_cmp} (l ++ map (placed_entry (place turn) (with_new_mode t rs)) (filter (λ (x : Names × Node). is_kept rs x.0) (entries t)))) nothing_added
+      ap (λ (l : Entries). from_entries {R = path_cmp} (l ++ map (placed_entry (place route) (with_new_mode t rs)) (filter (λ (x : Names × Node). is_kept rs x.0) (entries t)))) nothing_added
       ∙ ap (λ (l : Entries). from_entries {R = path_cmp} l) (entries_go (entries t) (λ p some. kept p (ap is_some (get-entries t p) ∙ some))))

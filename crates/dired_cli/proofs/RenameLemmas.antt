@@ -12,17 +12,17 @@ use Rattle.tree_core.specs.declared.changes.Confirmed.{Confirmed}
 use Rattle.tree_core.specs.declared.edit.Edit.{Edit}
 use Rattle.tree_core.specs.FileTree.{FileTree, IsTree, IsDir, IsAbsent, Stands, CanRename}
 use Rattle.tree_core.proofs.TreeLemmas.{none_of}
-use Rattle.edit_check.specs.declared.row.Row.{Row}
-use Rattle.edit_check.specs.Counting.{counts_of}
-use Rattle.edit_check.specs.Place.{IsAbove, fronts}
-use Rattle.edit_check.specs.Refusals.{missing_above, victim_of, victim_at}
-use Rattle.edit_check.specs.Rows.{rows, edit_row, is_same_path, is_source, is_far, is_far_of, written, written_of}
-use Rattle.edit_check.specs.Sight.{sight_of}
-use Rattle.edit_check.specs.WellFormed.{AreAsked, CanBeAsked, CanBeMade, IsWellFormed, IsEdit, IsNoRoot}
-use Rattle.edit_check.proofs.AboveLemmas.{fronts_above}
-use Rattle.edit_check.proofs.FindLemmas.{contains_head}
-use Rattle.edit_check.proofs.RefusalLemmas.{stands_decides}
-use Rattle.edit_check.proofs.TableLemmas.{same_path}
+use Rattle.edit_words.specs.declared.row.Row.{Row}
+use Rattle.edit_words.specs.Counting.{counts_of}
+use Rattle.edit_words.specs.Place.{IsAbove, ancestors}
+use Rattle.edit_words.specs.Refusals.{missing_above, victim_of, victim_at}
+use Rattle.edit_words.specs.Rows.{rows, edit_row, is_same_path, is_source, is_elsewhere, is_elsewhere_of, written, written_of}
+use Rattle.edit_words.specs.Sight.{sight_of}
+use Rattle.edit_words.specs.WellFormed.{AreAsked, CanBeAsked, CanBeMade, IsWellFormed, IsEdit, IsNoRoot}
+use Rattle.edit_words.proofs.AboveLemmas.{ancestors_above}
+use Rattle.edit_words.proofs.FindLemmas.{contains_head}
+use Rattle.edit_words.proofs.RefusalLemmas.{stands_decides}
+use Rattle.edit_words.proofs.SameLemmas.{same_path}
 use Rattle.dired_cli.specs.Verdicts.{is_one_name}
 use Rattle.dired_cli.proofs.CountLemmas.{first_fails, none_made, none_kept, replaces_none, makes_none}
 
@@ -50,10 +50,10 @@ same_length : (from to : Names) → from ≢ [] → to ≢ [] → parent from �
 same_length from to f n same =
     let a = last_name from f in
     let b = last_name to n in
-    let fronts : a.0 ≡ b.0 = sym (ap parent a.2 ∙ parent-push a.0 a.1) ∙ same ∙ ap parent b.2 ∙ parent-push b.0 b.1 in
+    let ancestors : a.0 ≡ b.0 = sym (ap parent a.2 ∙ parent-push a.0 a.1) ∙ same ∙ ap parent b.2 ∙ parent-push b.0 b.1 in
     let long_a : length from ≡ length a.0 + 1 = ap length a.2 ∙ length-append a.0 (a.1 ∷ []) in
     let long_b : length to ≡ length b.0 + 1 = ap length b.2 ∙ length-append b.0 (b.1 ∷ []) in
-    let front : length a.0 ≡ length b.0 = ap length fronts in
+    let front : length a.0 ≡ length b.0 = ap length ancestors in
     omega arith
 
 -- one edit with this new path
@@ -80,7 +80,7 @@ module _ (t : FileTree) (tree : IsTree t) (e : Edit) (to : Names) (is_to : e.to 
   written_to = ap (written_of (Some e.source)) is_to
 
   source_stands : Stands t e.source
-  source_stands = let found = fine.fresh r listed e.source e.was refl refl in ap is_some found.1
+  source_stands = let found = fine.shown r listed e.source e.was refl refl in ap is_some found.1
 
   no_source : is_source rs to ≡ false
   no_source = elim (cases_Bool (is_same_path to e.source)) [
@@ -98,35 +98,35 @@ module _ (t : FileTree) (tree : IsTree t) (e : Edit) (to : Names) (is_to : e.to 
       cc)
 
   -- in its directory
-  near : is_far r ≡ false → parent e.source ≡ parent to
+  near : is_elsewhere r ≡ false → parent e.source ≡ parent to
   near is =
-      let test : not (is_same_path (parent e.source) (parent to)) ≡ false = sym (ap (is_far_of (Some e.source)) is_to) ∙ is in
+      let test : not (is_same_path (parent e.source) (parent to)) ≡ false = sym (ap (is_elsewhere_of (Some e.source)) is_to) ∙ is in
       elim (cases_Bool (is_same_path (parent e.source) (parent to))) [
         | inl same ↦ same_path (parent e.source) (parent to) same
         | inr other ↦ absurd (let wrong : true ≡ false = sym (ap not other) ∙ test in cc)
       ]
 
   -- the directory of a new path elsewhere stands, where none is made
-  above_stands : is_far r ≡ true → flat_map (missing_above (sight_of t)) rs ≡ [] → Stands t (parent to)
+  above_stands : is_elsewhere r ≡ true → flat_map (missing_above (sight_of t)) rs ≡ [] → Stands t (parent to)
   above_stands far none =
       let missing : missing_above (sight_of t) r ≡ [] = sym (append-nil (missing_above (sight_of t) r)) ∙ none in
-      let absent_ones : filter (λ (p : Names). not (is_some ((sight_of t).at p))) (fronts (written r)) ≡ [] = sym (cond-true (is_far r) _ [] far) ∙ missing in
-      let front : Contains (fronts (written r)) (parent to) = subst (λ (w : Names). Contains (fronts w) (parent to)) (sym written_to) ((fronts_above to (parent to)).1 (parent_above to some_to)) in
-      let there : not (is_some ((sight_of t).at (parent to))) ≡ false = none_kept (λ (p : Names). not (is_some ((sight_of t).at p))) (fronts (written r)) (parent to) absent_ones front in
+      let absent_ones : filter (λ (p : Names). not (is_some ((sight_of t).at p))) (ancestors (written r)) ≡ [] = sym (cond-true (is_elsewhere r) _ [] far) ∙ missing in
+      let front : Contains (ancestors (written r)) (parent to) = subst (λ (w : Names). Contains (ancestors w) (parent to)) (sym written_to) ((ancestors_above to (parent to)).1 (parent_above to some_to)) in
+      let there : not (is_some ((sight_of t).at (parent to))) ≡ false = none_kept (λ (p : Names). not (is_some ((sight_of t).at p))) (ancestors (written r)) (parent to) absent_ones front in
       (stands_decides t (parent to)).0 (elim (cases_Bool (is_some ((sight_of t).at (parent to)))) [
         | inl is ↦ is
         | inr is ↦ absurd (let wrong : true ≡ false = sym (ap not is) ∙ there in cc)
       ])
 
   parent_is_dir : flat_map (missing_above (sight_of t)) rs ≡ [] → IsDir t (parent to)
-  parent_is_dir none = elim (cases_Bool (is_far r)) [
+  parent_is_dir none = elim (cases_Bool (is_elsewhere r)) [
     | inl far ↦ fine.parents r (parent to) listed far (subst (IsAbove (parent to)) (sym written_to) (parent_above to some_to)) (above_stands far none)
     | inr is ↦ subst (IsDir t) (near is) (parent_dir t e.source tree some_source source_stands)
   ]
 
   -- it isn't below itself
   not_below : (n : List ℕ) (rest : Names) → to ≡ e.source ++ n ∷ rest → ⊥
-  not_below n rest is = elim (cases_Bool (is_far r)) [
+  not_below n rest is = elim (cases_Bool (is_elsewhere r)) [
     | inl far ↦ fine.unmoved r r e.source listed listed far (refl, ap is_some is_to) (n, rest, written_to ∙ is)
     | inr at ↦
         let equal : length to ≡ length e.source = same_length e.source to some_source some_to (near at) in

@@ -1,8 +1,8 @@
 -- The statuses of what other crates refuse.
 use Rattle.wdired_buffer.specs.declared.faults.LineCause.{LineCause as BufferLineCause}
 use Rattle.wdired_buffer.specs.declared.faults.LineCause.TheVariants as line
-use Rattle.edit_check.specs.declared.fault.CheckFault.{CheckFault}
-use Rattle.edit_check.specs.declared.fault.CheckFault.TheVariants as fault
+use Rattle.edit_words.specs.declared.fault.CheckFault.{CheckFault}
+use Rattle.edit_words.specs.declared.fault.CheckFault.TheVariants as fault
 use Rattle.dired_cli.specs.declared.status.Counted.TheVariants as counted
 use Rattle.dired_cli.specs.declared.status.LineCause.{LineCause}
 use Rattle.dired_cli.specs.declared.status.LineCause.TheVariants as cause

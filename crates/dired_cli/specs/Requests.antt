@@ -8,7 +8,7 @@ use Rattle.wdired_buffer.specs.declared.faults.EditsFault.TheVariants as edits
 use Rattle.wdired_buffer.specs.declared.line.BufferLine.{BufferLine}
 use Rattle.wdired_buffer.specs.Buffer.{buffer_of}
 use Rattle.wdired_buffer.specs.Edits.{Asks, edits_of}
-use Rattle.edit_check.specs.WellFormed.{max_changes}
+use Rattle.edit_words.specs.WellFormed.{max_changes}
 use Rattle.dired_cli.specs.declared.requests.Request.{Request}
 use Rattle.dired_cli.specs.declared.status.Counted.TheVariants.{BufferLines, Edits}
 use Rattle.dired_cli.specs.declared.status.Status.{Status}
@@ -29,7 +29,7 @@ edits_status edits.Memory = Memory
 abbrev pub Asked : Type 0
 Asked = Result Request Status
 
--- all edits, unless there are more than 65,536
+-- all edits, unless there are more than 262,144
 abbrev pub of_asks : Confirmed → Asks → Asked
 of_asks confirmed asks =
     if nat_lt max_changes (length asks.edits) then Err (TooLarge Edits (length asks.edits))

@@ -10,14 +10,14 @@ use Rattle.tree_core.specs.FileTree.{FileTree, CanRename, renamed}
 use Rattle.tree_core.specs.History.{History, current_tree, IsDurable}
 use Rattle.listing_text.specs.declared.switches.Switches.{Switches}
 use Rattle.subdir_list.specs.Listings.{IsListing}
-use Rattle.edit_check.specs.declared.counts.Counts.{Counts}
-use Rattle.edit_check.specs.declared.fault.CheckFault.{CheckFault}
-use Rattle.edit_check.specs.declared.row.Row.{Row}
-use Rattle.edit_check.specs.Counting.{counts_of}
-use Rattle.edit_check.specs.Edited.{edited as edited_by}
-use Rattle.edit_check.specs.Refusals.{refusal}
-use Rattle.edit_check.specs.Rows.{rows}
-use Rattle.edit_check.specs.Sight.{Sight, sight_of}
+use Rattle.edit_words.specs.declared.counts.Counts.{Counts}
+use Rattle.edit_words.specs.declared.fault.CheckFault.{CheckFault}
+use Rattle.edit_words.specs.declared.row.Row.{Row}
+use Rattle.edit_words.specs.Counting.{counts_of}
+use Rattle.edit_words.specs.Edited.{edited as edited_by}
+use Rattle.edit_words.specs.Refusals.{refusal}
+use Rattle.edit_words.specs.Rows.{rows}
+use Rattle.edit_words.specs.Sight.{Sight, sight_of}
 use Rattle.dired_cli.specs.declared.requests.Request.{Request}
 use Rattle.dired_cli.specs.declared.status.Status.{Status}
 use Rattle.dired_cli.specs.declared.status.Status.TheVariants.{Done, Missing, NotBuilt}

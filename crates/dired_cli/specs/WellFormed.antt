@@ -12,11 +12,11 @@ use Rattle.wdired_buffer.specs.Buffer.{buffer_of}
 use Rattle.wdired_buffer.specs.Edits.{Asks, edits_of}
 use Rattle.command_words.specs.declared.command.Command.TheVariants as command
 use Rattle.command_words.specs.Commands.{command_of}
-use Rattle.edit_check.specs.declared.counts.Counts.{Counts}
-use Rattle.edit_check.specs.Counting.{counts_of}
-use Rattle.edit_check.specs.Rows.{rows}
-use Rattle.edit_check.specs.Sight.{sight_of}
-use Rattle.edit_check.specs.WellFormed.{CanBeMade, max_changes}
+use Rattle.edit_words.specs.declared.counts.Counts.{Counts}
+use Rattle.edit_words.specs.Counting.{counts_of}
+use Rattle.edit_words.specs.Rows.{rows}
+use Rattle.edit_words.specs.Sight.{sight_of}
+use Rattle.edit_words.specs.WellFormed.{CanBeMade, max_changes}
 use Rattle.dired_cli.specs.Inputs.{Files, max_buffer_bytes}
 
 -- at most one new path, and nothing else

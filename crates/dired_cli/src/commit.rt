@@ -5,7 +5,7 @@ ghost use Rattle.tree_core.specs.declared.changes.Changes.TheVariants.{Edits};
 ghost use Rattle.tree_core.specs.FileTree.{CanRename, renamed};
 ghost use Rattle.tree_core.specs.History.{current_tree, IsDurable, LeavesOnly};
 ghost use Rattle.tree_core.specs.Faults.{with_fault};
-ghost use Rattle.edit_check.specs.WellFormed.{AreAsked};
+ghost use Rattle.edit_words.specs.WellFormed.{AreAsked};
 ghost use Rattle.dired_cli.specs.Statuses.{ByCause, IsRefusal};
 ghost use Rattle.dired_cli.specs.Verdicts.{IsOldOrEdited, FaultLeaves, is_one_name as is_one_name_of, on_tree, on_edits, on_edit, edited, flagged_text, counts_text, summary_text, Keeps, Makes, Refuses, CanAct, IsDone};
 

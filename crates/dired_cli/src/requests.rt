@@ -2,7 +2,7 @@
 ghost use Rattle.std.specs.Prelude.{◌≡◌, ◌≤◌, ◌⊎◌, MatchResult, IfErr, IfOk, Some, Ok, Err, length};
 ghost use Rattle.dired_text.specs.Counts.{raised};
 ghost use Rattle.tree_core.specs.declared.changes.Changes.TheVariants.{Edits};
-ghost use Rattle.edit_check.specs.WellFormed.{AreAsked};
+ghost use Rattle.edit_words.specs.WellFormed.{AreAsked};
 ghost use Rattle.dired_cli.specs.declared.status.Status.TheVariants.{Memory as memory};
 ghost use Rattle.dired_cli.specs.Inputs.{max_buffer_bytes};
 ghost use Rattle.dired_cli.specs.Requests.{request_of, asked_by, buffer_status as buffer_status_of};

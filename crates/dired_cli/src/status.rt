@@ -16,11 +16,11 @@ use wdired_buffer::BufferCause;
 /// A quantity that has a limit.
 #[derive(Clone, Copy, Debug, PartialEq, Eq)]
 pub enum Counted {
-    /// The bytes of one buffer, at most 33,554,432.
+    /// The bytes of one buffer, at most 67,108,864.
     BufferBytes,
-    /// The lines of BEFORE, at most 200,000.
+    /// The lines of BEFORE, at most 400,000.
     BufferLines,
-    /// The edits of one commit, at most 65,536.
+    /// The edits of one commit, at most 262,144.
     Edits,
     /// The bytes of the paths of one commit, at most 67,108,864.
     PathBytes,

@@ -1,22 +1,28 @@
 -- What a check hands on, by what was found.
-use Rattle.std.proofs.Common.{◌≡◌, ◌⊎◌, Bool, true, false, cond, List, [], ◌∷◌, Option, Some, None, refl, sym, ◌∙◌, ap, inl, inr, IfErr, Result, Ok, Err, IfOk, MatchResult, subst}
+use Rattle.std.proofs.Common.{◌≡◌, ◌⊎◌, Bool, true, false, cond, List, [], ◌∷◌, Option, Some, None, refl, sym, ◌∙◌, ap, inl, inr, IfErr, Result, Ok, Err, IfOk, subst}
 use Rattle.std.specs.Option.{option_map, option_or}
 use Rattle.tree_core.specs.declared.node.CallName.{CallName}
 use Rattle.tree_core.specs.declared.faults.Faults.{Faults}
 use Rattle.tree_core.specs.declared.changes.Confirmed.{Confirmed}
+use Rattle.tree_core.specs.declared.meta.Meta.{Meta}
 use Rattle.tree_core.specs.FileTree.{FileTree, IsTree}
-use Rattle.edit_check.specs.declared.row.Row.{Row}
-use Rattle.edit_check.specs.declared.findings.Findings.{Findings}
-use Rattle.edit_check.specs.declared.fault.CheckFault.{CheckFault}
-use Rattle.edit_check.specs.declared.fault.CheckFault.TheVariants as fault
-use Rattle.edit_check.specs.Found.{sight_in, HasFindings, IsCovered, IsFreeOr, IsLookAt, FaultsBy, failed_call}
-use Rattle.edit_check.specs.Checks.{FoundBy}
-use Rattle.edit_check.specs.Sight.{Sight, sight_of}
-use Rattle.edit_check.specs.Refusals.{first_fault, fault_if, refusal, parents, across, changed_bytes}
-use Rattle.edit_check.specs.Rows.{is_far}
-use Rattle.edit_check.specs.WellFormed.{CanBeMade}
+use Rattle.tree_core.specs.History.{History}
+use Rattle.tree_core.specs.Looks.{OnlyLooked, failed_in, faults_with}
+use Rattle.dired_text.specs.Paths.{Names}
+use Rattle.edit_words.specs.declared.row.Row.{Row}
+use Rattle.edit_words.specs.declared.findings.Findings.{Findings}
+use Rattle.edit_words.specs.declared.fault.CheckFault.{CheckFault}
+use Rattle.edit_words.specs.declared.fault.CheckFault.TheVariants as fault
+use Rattle.edit_words.specs.Found.{sight_in, HasFindings, IsCovered, IsFreeOr, IsLookAt, failed_call}
+use Rattle.edit_check.specs.Checks.{IsAnswer}
+use Rattle.edit_looks.specs.Looks.{IsLookEnd}
+use Rattle.edit_words.specs.declared.seen.Seen.TheVariants.{Dir}
+use Rattle.edit_words.specs.Sight.{Sight, sight_of}
+use Rattle.edit_words.specs.Refusals.{first_fault, fault_if, refusal, parents, across, changed_bytes}
+use Rattle.edit_words.specs.Rows.{is_elsewhere}
+use Rattle.edit_words.specs.WellFormed.{CanBeMade}
 use Rattle.edit_check.proofs.SameSight.{refusal_seen}
-use Rattle.edit_check.proofs.WellFormedLemmas.{taken_alone}
+use Rattle.edit_words.proofs.WellFormedLemmas.{taken_alone}
 
 -- ---- No fault of the changes names a call of the tree.
 
@@ -47,7 +53,7 @@ first_names rule [] names = none_names
 first_names rule (r ∷ rs) names = or_names (rule r) _ (names r) (first_names rule rs names)
 
 parents_names : (s : Sight) (rs : List Row) (r : Row) → NamesNoCall (parents s rs r)
-parents_names s rs r = cond_names (is_far r) _ (or_names _ _ (map_names (fault.ParentNotDirectory r.line) _ (λ a. refl)) (or_names _ _ (map_names (fault.MovedParent r.line) _ (λ a. refl)) (map_names (fault.ParentTaken r.line) _ (λ a. refl))))
+parents_names s rs r = cond_names (is_elsewhere r) _ (or_names _ _ (map_names (fault.ParentNotDirectory r.line) _ (λ a. refl)) (or_names _ _ (map_names (fault.MovedParent r.line) _ (λ a. refl)) (map_names (fault.ParentTaken r.line) _ (λ a. refl))))
 
 across_names : (s : Sight) (rs : List Row) (r : Row) → NamesNoCall (across s rs r)
 across_names s rs r =
@@ -94,16 +100,29 @@ pub ok_map : {A : Type 0} (result : Result A CheckFault) (P Q : A → Type 0) �
 ok_map (Ok a) P Q by held = by a held
 ok_map (Err f) P Q by held = tt
 
-pub found_by : {A : Type 0} (result : Result A CheckFault) (t old new : FileTree) → new ≡ old → IfErr result (λ f. failed_call f ≡ None)
-    → MatchResult result (λ _. new ≡ old) (λ f. FoundBy (failed_call f) t old new)
-found_by (Ok a) t old new same none = same
-found_by (Err f) t old new same none = subst (λ (o : Option CallName). FoundBy o t old new) (sym none) same
+pub looked_by : {A : Type 0} (result : Result A CheckFault) {h i : History} {f g : Names → Meta} {b d : FileTree} → OnlyLooked None h i f g b d → IfErr result (λ f. failed_call f ≡ None)
+    → OnlyLooked (failed_in failed_call result) h i f g b d
+looked_by (Ok a) looked none = looked
+looked_by (Err e) {h} {i} {f} {g} {b} {d} looked none = subst (λ (o : Option CallName). OnlyLooked o h i f g b d) (sym none) looked
 
-pub faults_by : {A : Type 0} (result : Result A CheckFault) (old new : Faults) → new ≡ old → IfErr result (λ f. failed_call f ≡ None)
-    → IfErr result (λ f. FaultsBy (failed_call f) old new)
-faults_by (Ok a) old new same none = tt
-faults_by (Err f) old new same none = subst (λ (o : Option CallName). FaultsBy o old new) (sym none) same
+pub faults_by : {A : Type 0} (result : Result A CheckFault) (old new : Faults) → new ≡ old → IfErr result (λ f. failed_call f ≡ None) → new ≡ faults_with (failed_in failed_call result) old
+faults_by (Ok a) old new same none = same
+faults_by (Err f) old new same none = subst (λ (o : Option CallName). new ≡ faults_with o old) (sym none) same
 
-pub looks_by : {A : Type 0} (result : Result A CheckFault) → IfErr result (λ f. failed_call f ≡ None) → IfErr result (λ f. IsLookAt (failed_call f))
+pub looks_by : {A : Type 0} (result : Result A CheckFault) → IfErr result (λ f. failed_call f ≡ None) → IsLookAt (failed_in failed_call result)
 looks_by (Ok a) none = tt
 looks_by (Err f) none = subst IsLookAt (sym none) tt
+
+-- ---- Answers, whatever the tree tells.
+
+pub answered : (s : Sight) (confirmed : Confirmed) (rs os : List Row) (f : CheckFault) → rs ≡ os → (f ≡ fault.Memory) ⊎ (refusal s confirmed rs ≡ Some f) → IsAnswer confirmed os f
+answered s confirmed rs os f same (inl memory) = inl (inl memory)
+answered s confirmed rs os f same (inr is) = inr (s, sym (ap (refusal s confirmed) same) ∙ is)
+
+-- something stands everywhere
+abbrev full : Sight
+full = record { at = λ p. Some (Dir 0); is_empty = λ p. false }
+
+pub end_answered : (confirmed : Confirmed) (rs : List Row) (f : CheckFault) → IsLookEnd rs f → IsAnswer confirmed rs f
+end_answered confirmed rs f (inl pending) = inr (full, ap (λ (x : CheckFault). Some x) (sym pending))
+end_answered confirmed rs f (inr stale) = inl stale

@@ -1,27 +1,31 @@
 -- Refusals and counts depend only on what was looked at.
-use Rattle.std.proofs.Common.{◌≡◌, ℕ, ◌+◌, Bool, true, false, cond, not, ◌&&◌, List, [], count_by, length, refl, sym, ◌∙◌, ap, subst, Option, Some, None, Contains, option_map, is_some, IsTrue}
+use Rattle.std.proofs.Common.{◌≡◌, ℕ, ◌+◌, Bool, true, false, cond, not, ◌&&◌, List, [], ◌∷◌, count_by, length, refl, sym, ◌∙◌, ap, subst, Option, Some, None, Contains, option_map, is_some, IsTrue}
 use Rattle.std.specs.BTreeMap.{get}
-use Rattle.std.specs.List.{flat_map}
+use Rattle.std.specs.List.{cons_option, flat_map, filter_map, list_any}
 use Rattle.std.specs.Option.{option_or, unwrap_or}
 use Rattle.std.proofs.lemmas.Bool.{false≢true}
 use Rattle.std.proofs.lemmas.List.Sums.{length-filter}
 use Rattle.dired_text.specs.Paths.{Names, path_cmp, path_bytes}
 use Rattle.tree_core.specs.declared.edit.Shown.{Shown}
 use Rattle.tree_core.specs.declared.changes.Confirmed.{Confirmed}
-use Rattle.edit_check.specs.declared.row.Row.{Row}
-use Rattle.edit_check.specs.declared.counts.Counts.{Counts}
-use Rattle.edit_check.specs.declared.findings.Findings.{Findings}
-use Rattle.edit_check.specs.declared.sight.Seen.{Seen}
-use Rattle.edit_check.specs.declared.fault.CheckFault.{CheckFault}
-use Rattle.edit_check.specs.declared.fault.CheckFault.TheVariants.{Pending, Stale, ModeClash, ParentNotDirectory, ParentTaken, TargetIsDirectory, NotEmpty, Unconfirmed}
-use Rattle.edit_check.specs.Place.{IsAbove, is_above, fronts}
-use Rattle.edit_check.specs.Rows.{is_source, written, written_of, is_far, is_far_of}
-use Rattle.edit_check.specs.Sight.{Sight, is_dir, is_other, number_of, number_at}
-use Rattle.edit_check.specs.Refusals.{staging, first_fault, fault_if, is_as_shown, is_stale_at, stale, reserved, two_to_one, are_same, differ, mode_clash, parent_not_directory, moved_parent, parent_taken, path_too_long, parents, across, victim_at, victim_of, if_dir, then_at, directory_replaced, if_full, not_empty, if_unconfirmed, unconfirmed, total, missing_above, own_bytes, row_bytes, changed_bytes, too_many_bytes, ill_formed, refusal}
-use Rattle.edit_check.specs.Counting.{different, counts_of}
-use Rattle.edit_check.specs.Found.{sight_in, HasFindings, IsSeen, IsCovered}
-use Rattle.edit_check.proofs.AboveLemmas.{above_decides, fronts_above}
-use Rattle.edit_check.proofs.AlikeLemmas.{find_alike, line_where_alike, filter_alike, flat_map_alike, total_alike, fault_alike}
+use Rattle.edit_words.specs.declared.row.Row.{Row}
+use Rattle.edit_words.specs.declared.counts.Counts.{Counts}
+use Rattle.edit_words.specs.declared.findings.Findings.{Findings}
+use Rattle.edit_words.specs.declared.seen.Seen.{Seen}
+use Rattle.edit_words.specs.declared.fault.CheckFault.{CheckFault}
+use Rattle.edit_words.specs.declared.fault.CheckFault.TheVariants.{Pending, Stale, ModeClash, ParentNotDirectory, ParentTaken, TargetIsDirectory, NotEmpty, Unconfirmed}
+use Rattle.edit_words.specs.Place.{IsAbove, is_above, ancestors}
+use Rattle.edit_words.specs.Rows.{is_source, written, written_of, is_elsewhere, is_elsewhere_of}
+use Rattle.edit_words.specs.Sight.{Sight, is_dir, is_other, number_of, number_at}
+use Rattle.edit_words.specs.Refusals.{staging, first_fault, fault_if, is_as_shown, is_stale_at, stale, reserved, two_to_one, are_same, differ, mode_clash, parent_not_directory, moved_parent, parent_taken, path_too_long, parents, across, victim_at, victim_of, if_dir, then_at, directory_replaced, if_full, not_empty, if_unconfirmed, unconfirmed, total, missing_above, own_bytes, row_bytes, changed_bytes, too_many_bytes, ill_formed, refusal}
+use Rattle.edit_words.specs.Counting.{different, counts_of}
+use Rattle.edit_words.specs.Found.{sight_in, HasFindings, IsSeen, IsCovered}
+use Rattle.edit_words.proofs.AboveLemmas.{above_decides, ancestors_above}
+use Rattle.edit_rules.specs.Plans.{AreMissing, AreModes, ModeChange, is_line, mode_change_by, mode_change_of, names_place, victims_of}
+use Rattle.edit_words.specs.Rows.{is_same_path}
+use Rattle.edit_words.proofs.FindLemmas.{contains_head, contains_tail}
+use Rattle.edit_words.proofs.FindingsLemmas.{told_found}
+use Rattle.edit_words.proofs.AlikeLemmas.{find_alike, line_where_alike, filter_alike, flat_map_alike, total_alike, fault_alike}
 
 -- ---- sights that agree
 
@@ -41,11 +45,7 @@ pub record AgreeOn (s u : Sight) (rs : List Row) : Type 0 where
   pub rows : (r : Row) → Contains rs r → Agree s u r
 
 seen_at : (f : Findings) (s : Sight) → HasFindings f s → (p : Names) → IsSeen f p → (sight_in f).at p ≡ s.at p
-seen_at f s has p is = by_found (get path_cmp f.found p) refl is
-  where
-    by_found : (o : Option (Option Seen)) → get path_cmp f.found p ≡ o → IsTrue (is_some o) → unwrap_or (get path_cmp f.found p) None ≡ s.at p
-    by_found None e is = absurd (false≢true is)
-    by_found (Some found) e is = ap (λ (o : Option (Option Seen)). unwrap_or o None) e ∙ sym (has.at p found e)
+seen_at f s has p is = sym (told_found p has is)
 
 emptied_at : (f : Findings) (s : Sight) → HasFindings f s → (p : Names) → IsTrue (is_some (get path_cmp f.empty p)) → (sight_in f).is_empty p ≡ s.is_empty p
 emptied_at f s has p is = by_found (get path_cmp f.empty p) refl is
@@ -96,30 +96,30 @@ mode_clash_same s u rs r all a =
     ap (λ (n : Option ℕ). are_same n (number_at s o.source) && differ r.mode o.mode) (number_same s u r.source a.source)
     ∙ ap (λ (n : Option ℕ). are_same (number_at u r.source) n && differ r.mode o.mode) (number_same s u o.source (all.rows o c).source)))
 
-far_to : (source to : Option Names) → is_far_of source to ≡ true → (w : Names) × (to ≡ Some w) × (written_of source to ≡ w)
+far_to : (source to : Option Names) → is_elsewhere_of source to ≡ true → (w : Names) × (to ≡ Some w) × (written_of source to ≡ w)
 far_to None None far = absurd (false≢true far)
 far_to (Some s) None far = absurd (false≢true far)
 far_to None (Some w) far = (w, refl, refl)
 far_to (Some s) (Some w) far = (w, refl, refl)
 
 -- they agree above what is written elsewhere
-far_above : (s u : Sight) (r : Row) → Agree s u r → is_far r ≡ true → (p : Names) → IsAbove p (written r) → s.at p ≡ u.at p
+far_above : (s u : Sight) (r : Row) → Agree s u r → is_elsewhere r ≡ true → (p : Names) → IsAbove p (written r) → s.at p ≡ u.at p
 far_above s u r a far p above =
     let to = far_to r.source r.to far in
     a.above p to.0 to.1 (subst (λ (w : Names). IsAbove p w) to.2 above)
 
-parent_not_directory_same : (s u : Sight) (r : Row) → Agree s u r → is_far r ≡ true → parent_not_directory s r ≡ parent_not_directory u r
+parent_not_directory_same : (s u : Sight) (r : Row) → Agree s u r → is_elsewhere r ≡ true → parent_not_directory s r ≡ parent_not_directory u r
 parent_not_directory_same s u r a far =
-    ap (option_map (ParentNotDirectory r.line)) (find_alike _ _ (fronts (written r)) (λ p c. ap is_other (far_above s u r a far p ((fronts_above (written r) p).0 c))))
+    ap (option_map (ParentNotDirectory r.line)) (find_alike _ _ (ancestors (written r)) (λ p c. ap is_other (far_above s u r a far p ((ancestors_above (written r) p).0 c))))
 
-parent_taken_same : (s u : Sight) (rs : List Row) (r : Row) → Agree s u r → is_far r ≡ true → parent_taken s rs r ≡ parent_taken u rs r
+parent_taken_same : (s u : Sight) (rs : List Row) (r : Row) → Agree s u r → is_elsewhere r ≡ true → parent_taken s rs r ≡ parent_taken u rs r
 parent_taken_same s u rs r a far =
     ap (option_map (ParentTaken r.line)) (line_where_alike _ _ rs (λ o c.
     and_alike (is_above (written o) (written r)) _ _ (λ above.
     ap (λ (seen : Option Seen). not (is_some seen)) (far_above s u r a far (written o) ((above_decides (written o) (written r)).0 above)))))
 
 parents_same : (s u : Sight) (rs : List Row) (r : Row) → Agree s u r → parents s rs r ≡ parents u rs r
-parents_same s u rs r a = if_alike (is_far r) _ _ None (λ far.
+parents_same s u rs r a = if_alike (is_elsewhere r) _ _ None (λ far.
     ap (λ (o : Option CheckFault). option_or o (option_or (moved_parent rs r) (parent_taken s rs r))) (parent_not_directory_same s u r a far)
     ∙ ap (λ (o : Option CheckFault). option_or (parent_not_directory u r) (option_or (moved_parent rs r) o)) (parent_taken_same s u rs r a far))
 
@@ -161,8 +161,8 @@ pub unconfirmed_same : (s u : Sight) (confirmed : Confirmed) (rs : List Row) (r 
 unconfirmed_same s u confirmed rs r a = ap (λ (o : Option Names). option_map (Unconfirmed r.line) (then_at o (if_unconfirmed confirmed))) (victim_same s u rs r a)
 
 pub missing_same : (s u : Sight) (r : Row) → Agree s u r → missing_above s r ≡ missing_above u r
-missing_same s u r a = if_alike (is_far r) _ _ [] (λ far.
-    filter_alike _ _ (fronts (written r)) (λ p c. ap (λ (o : Option Seen). not (is_some o)) (far_above s u r a far p ((fronts_above (written r) p).0 c))))
+missing_same s u r a = if_alike (is_elsewhere r) _ _ [] (λ far.
+    filter_alike _ _ (ancestors (written r)) (λ p c. ap (λ (o : Option Seen). not (is_some o)) (far_above s u r a far p ((ancestors_above (written r) p).0 c))))
 
 -- ---- over all rows
 
@@ -223,3 +223,40 @@ refusal_seen f s confirmed rs has covered = refusal_same (sight_in f) s confirme
 
 pub counts_seen : (f : Findings) (s : Sight) (rs : List Row) → HasFindings f s → IsCovered f rs → counts_of (sight_in f) rs ≡ counts_of s rs
 counts_seen f s rs has covered = counts_same (sight_in f) s rs (findings_agree f s rs has covered)
+
+filter_map_alike : {A B : Type 0} (f g : A → Option B) (xs : List A) → ((x : A) → Contains xs x → f x ≡ g x) → filter_map f xs ≡ filter_map g xs
+filter_map_alike f g [] same = refl
+filter_map_alike f g (x ∷ xs) same =
+    ap (λ o. cons_option o (filter_map f xs)) (same x (contains_head x xs))
+    ∙ ap (cons_option (g x)) (filter_map_alike f g xs (λ y c. same y (contains_tail x y xs c)))
+
+pub victims_seen : (f : Findings) (s : Sight) (rs : List Row) → HasFindings f s → IsCovered f rs → victims_of (sight_in f) rs ≡ victims_of s rs
+victims_seen f s rs has covered =
+    let all = findings_agree f s rs has covered in
+    filter_map_alike _ _ rs (λ r c. ap (option_map (λ (p : Names). (r.line, p))) (victim_same (sight_in f) s rs r (all.rows r c)))
+
+pub missing_seen : (f : Findings) (s : Sight) (rs : List Row) (ps : List Names) → HasFindings f s → IsCovered f rs → AreMissing (sight_in f) rs ps → AreMissing s rs ps
+missing_seen f s rs ps has covered missing =
+    let all = findings_agree f s rs has covered in
+    record {
+      sorted = missing.sorted;
+      same = λ p. missing.same p ∙ ap (λ (l : List Names). list_any (is_same_path p) l) (flat_map_alike _ _ rs (λ r c. missing_same (sight_in f) s r (all.rows r c)));
+    }
+
+names_place_alike : (s u : Sight) (rs : List Row) (r : Row) → AgreeOn s u rs → (number : Option ℕ) → names_place s rs r number ≡ names_place u rs r number
+names_place_alike s u rs r all None = refl
+names_place_alike s u rs r all (Some number) = ap (is_line r.line) (line_where_alike _ _ rs (λ o c.
+    ap (λ (n : Option ℕ). are_same (Some number) n && is_some o.mode) (number_same s u o.source (all.rows o c).source)))
+
+mode_change_same : (s u : Sight) (rs : List Row) (r : Row) → AgreeOn s u rs → Agree s u r → mode_change_of s rs r ≡ mode_change_of u rs r
+mode_change_same s u rs r all a =
+    ap (λ (n : Option ℕ). mode_change_by rs (names_place s rs r n) r.source r.was r.mode) (number_same s u r.source a.source)
+    ∙ ap (λ (b : Bool). mode_change_by rs b r.source r.was r.mode) (names_place_alike s u rs r all (number_at u r.source))
+
+pub modes_seen : (f : Findings) (s : Sight) (rs : List Row) (ms : List ModeChange) → HasFindings f s → IsCovered f rs → AreModes (sight_in f) rs ms → AreModes s rs ms
+modes_seen f s rs ms has covered modes =
+    let all = findings_agree f s rs has covered in
+    record {
+      sorted = modes.sorted;
+      same = λ test. modes.same test ∙ ap (λ (l : List ModeChange). count_by test l) (filter_map_alike _ _ rs (λ r c. mode_change_same (sight_in f) s rs r all (all.rows r c)));
+    }

@@ -1,16 +1,3 @@
-pub mod Place
-pub mod Rows
-pub mod Sight
-pub mod Refusals
-pub mod WellFormed
-pub mod Edited
-pub mod Counting
-pub mod Claims
-pub mod Tables
-pub mod Found
-pub mod Looks
 pub mod Checks
 pub mod Facts
 pub mod StandFor
-pub mod Laws
-pub mod Asking

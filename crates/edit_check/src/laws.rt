@@ -1,33 +1,22 @@
-// What holds of the words that the contracts cite.
-ghost use Rattle.edit_check.specs.StandFor.{CanBeMadeWhereItStands, CountedWhereItStands};
-ghost use Rattle.edit_check.specs.Laws.{FaultOfFirst, FaultOfLeast, LineOfLeast, NoLine, TakenAlone, WellFormedAlone};
+// What holds of changes that were checked.
+ghost use Rattle.edit_check.specs.StandFor.{CanBeMadeWhereItStands, CountedWhereItStands, IsChecked, ListedWhereItStands};
 
 use crate::Checked;
 
-/// The faults that no confirmation changes are those of changes that aren't well formed.
-pub fn well_formed_where_no_fault_is_found()
-    ensures { WellFormedAlone }
-{}
-
-/// The changes of which nothing is refused are those that can be made: they are well formed, all that would be replaced
-/// is confirmed, and the bytes of their paths are not too many.
-pub fn taken_where_nothing_is_refused()
-    ensures { TakenAlone }
-{}
-
-/// The fault that is found is that of the first row that has one, and where lines rise no row of a lesser line has one.
-/// The line of the first row that passes is then the least line of one that does.
-pub fn the_first_line_is_the_least()
-    ensures first { FaultOfFirst }
-    ensures least { FaultOfLeast }
-    ensures line { LineOfLeast }
-    ensures none { NoLine }
-{}
-
-/// A `Checked` stands for each tree that has its findings: there the changes can be made, and the counts are theirs.
+/// A `Checked` stands for each tree that has its findings: there the changes can be made, and the counts, the victims, the
+/// missing directories and the modes that change are theirs.
 pub fn changes_can_be_made_where_it_stands(checked: &Checked)
     ensures made { CanBeMadeWhereItStands checked.now }
     ensures counted { CountedWhereItStands checked.now }
+    ensures listed { ListedWhereItStands checked.now }
+{
+    let _changes = &checked.changes;
+}
+
+/// What holds of a `Checked` whatever the tree told: its changes can be asked for, what was found refuses nothing of them and gives
+/// their counts, and above what was found to stand there are directories.
+pub fn what_is_checked(checked: &Checked)
+    ensures { IsChecked checked.now }
 {
     let _changes = &checked.changes;
 }

@@ -13,11 +13,11 @@ use Rattle.tree_core.specs.declared.node.Node.{Node}
 use Rattle.tree_core.specs.declared.node.Node.TheVariants.{Dir}
 use Rattle.tree_core.specs.FileTree.{FileTree, IsTree, IsAbsent, Stands}
 use Rattle.tree_core.proofs.TreeLemmas.{tie, tie-other, absent_not}
-use Rattle.edit_check.specs.declared.row.Row.{Row}
-use Rattle.edit_check.specs.Place.{place, IsAbove, fronts}
-use Rattle.edit_check.specs.Rows.{written, is_far, is_far_of, turn_of, is_kept}
-use Rattle.edit_check.specs.Edited.{missing, is_fresh, fresh_places, fresh_place_of, added_by}
-use Rattle.edit_check.specs.WellFormed.{IsWellFormed, LinesRise}
+use Rattle.edit_words.specs.declared.row.Row.{Row}
+use Rattle.edit_words.specs.Place.{place, IsAbove, ancestors}
+use Rattle.edit_words.specs.Rows.{written, is_elsewhere, is_elsewhere_of, route_of, is_kept}
+use Rattle.edit_words.specs.Edited.{missing, is_fresh, fresh_places, fresh_place_of, added_by}
+use Rattle.edit_words.specs.WellFormed.{IsWellFormed, LinesRise}
 use Rattle.edit_laws.proofs.ListLemmas.{contains_head, contains_tail, contains_none, contains_cases, contains_filter, filter_parts, contains_map, map_parts, contains_flat, flat_parts, zip_weaker}
 use Rattle.edit_laws.proofs.PlaceLemmas.{place-apart}
 use Rattle.edit_laws.proofs.PlacedLemmas.{find-append_some, find-append_none, tie_itself}
@@ -26,17 +26,17 @@ use Rattle.edit_laws.proofs.RowLemmas.{AreRows, rows_apart, one_row, source_stay
 
 -- ---- lists of paths and entries
 
-fronts_above : (w u : Names) → Contains (fronts w) u → IsAbove u w
-fronts_above [] u c = absurd (contains_none u c)
-fronts_above (n ∷ w) u c = elim (contains_cases [] u (map (λ (q : Names). n ∷ q) (fronts w)) c) [
+ancestors_above : (w u : Names) → Contains (ancestors w) u → IsAbove u w
+ancestors_above [] u c = absurd (contains_none u c)
+ancestors_above (n ∷ w) u c = elim (contains_cases [] u (map (λ (q : Names). n ∷ q) (ancestors w)) c) [
   | inl root ↦ (n, w, ap (λ (l : Names). l ++ n ∷ w) root)
-  | inr later ↦ let m = map_parts (λ (q : Names). n ∷ q) (fronts w) u later in let a = fronts_above w m.0 m.1 in
+  | inr later ↦ let m = map_parts (λ (q : Names). n ∷ q) (ancestors w) u later in let a = ancestors_above w m.0 m.1 in
       (a.0, a.1, ap (λ (l : Names). n ∷ l) a.2 ∙ ap (λ (l : Names). l ++ a.0 ∷ a.1) m.2)
 ]
 
-above_fronts : (u : Names) (n : List ℕ) (rest : Names) → Contains (fronts (u ++ n ∷ rest)) u
-above_fronts [] n rest = contains_head [] (map (λ (q : Names). n ∷ q) (fronts rest))
-above_fronts (x ∷ u) n rest = contains_tail [] (x ∷ u) (map (λ (q : Names). x ∷ q) (fronts (u ++ n ∷ rest))) (contains_map (λ (q : Names). x ∷ q) (fronts (u ++ n ∷ rest)) u (above_fronts u n rest))
+above_fronts : (u : Names) (n : List ℕ) (rest : Names) → Contains (ancestors (u ++ n ∷ rest)) u
+above_fronts [] n rest = contains_head [] (map (λ (q : Names). n ∷ q) (ancestors rest))
+above_fronts (x ∷ u) n rest = contains_tail [] (x ∷ u) (map (λ (q : Names). x ∷ q) (ancestors (u ++ n ∷ rest))) (contains_map (λ (q : Names). x ∷ q) (ancestors (u ++ n ∷ rest)) u (above_fronts u n rest))
 
 abbrev pub as_dir : Names → Names × Node
 as_dir p = (p, Dir 0o755)
@@ -93,46 +93,46 @@ zip_finds {X = X} f (x ∷ xs) (n ∷ ns) apart long = (
 -- ---- rows
 
 module _ (t : FileTree) (rs : List Row) where
-  pub missing_there : (r : Row) (u : Names) → Contains rs r → is_far r ≡ true → IsAbove u (written r) → IsAbsent t u → Contains (missing t rs) u
+  pub missing_there : (r : Row) (u : Names) → Contains rs r → is_elsewhere r ≡ true → IsAbove u (written r) → IsAbsent t u → Contains (missing t rs) u
   missing_there r u listed far (n, rest, is) absent = contains_filter _ _ u
-      (contains_flat (λ (r : Row). if is_far r then fronts (written r) else []) rs r u listed
-      (subst (λ (l : List Names). Contains l u) (sym (cond-true (is_far r) (fronts (written r)) [] far)) (subst (λ (l : Names). Contains (fronts l) u) (sym is) (above_fronts u n rest))))
+      (contains_flat (λ (r : Row). if is_elsewhere r then ancestors (written r) else []) rs r u listed
+      (subst (λ (l : List Names). Contains l u) (sym (cond-true (is_elsewhere r) (ancestors (written r)) [] far)) (subst (λ (l : Names). Contains (ancestors l) u) (sym is) (above_fronts u n rest))))
       (ap (λ (o : Option Node). not (is_some o)) absent)
 
-  pub missing_parts : (u : Names) → Contains (missing t rs) u → (r : Row) × Contains rs r × (is_far r ≡ true) × IsAbove u (written r) × IsAbsent t u
+  pub missing_parts : (u : Names) → Contains (missing t rs) u → (r : Row) × Contains rs r × (is_elsewhere r ≡ true) × IsAbove u (written r) × IsAbsent t u
   missing_parts u c =
       let f = filter_parts _ _ u c in
-      let r = flat_parts (λ (r : Row). if is_far r then fronts (written r) else []) rs u f.0 in
-      by_far r.0 r.1 r.2 (is_absent (get t u) refl f.1) (cases_Bool (is_far r.0))
+      let r = flat_parts (λ (r : Row). if is_elsewhere r then ancestors (written r) else []) rs u f.0 in
+      by_far r.0 r.1 r.2 (is_absent (get t u) refl f.1) (cases_Bool (is_elsewhere r.0))
     where
       is_absent : (o : Option Node) → get t u ≡ o → not (is_some (get t u)) ≡ true → get t u ≡ None
       is_absent None e no_one = e
       is_absent (Some x) e no_one = let both : false ≡ true = sym (ap (λ (o : Option Node). not (is_some o)) e) ∙ no_one in absurd cc
 
-      by_far : (r : Row) → Contains rs r → Contains (if is_far r then fronts (written r) else []) u → IsAbsent t u → (is_far r ≡ true) ⊎ (is_far r ≡ false)
-          → (r : Row) × Contains rs r × (is_far r ≡ true) × IsAbove u (written r) × IsAbsent t u
-      by_far r listed in_r absent (inl far) = (r, listed, far, fronts_above (written r) u (subst (λ (l : List Names). Contains l u) (cond-true (is_far r) (fronts (written r)) [] far) in_r), absent)
-      by_far r listed in_r absent (inr near_by) = absurd (contains_none u (subst (λ (l : List Names). Contains l u) (cond-false (is_far r) (fronts (written r)) [] near_by) in_r))
+      by_far : (r : Row) → Contains rs r → Contains (if is_elsewhere r then ancestors (written r) else []) u → IsAbsent t u → (is_elsewhere r ≡ true) ⊎ (is_elsewhere r ≡ false)
+          → (r : Row) × Contains rs r × (is_elsewhere r ≡ true) × IsAbove u (written r) × IsAbsent t u
+      by_far r listed in_r absent (inl far) = (r, listed, far, ancestors_above (written r) u (subst (λ (l : List Names). Contains l u) (cond-true (is_elsewhere r) (ancestors (written r)) [] far) in_r), absent)
+      by_far r listed in_r absent (inr near_by) = absurd (contains_none u (subst (λ (l : List Names). Contains l u) (cond-false (is_elsewhere r) (ancestors (written r)) [] near_by) in_r))
 
   -- what a row has made stands at the place of its source, a retargeted link, or at its new path
   pub data MadeBy (r : Row) (q : Names) : Type 0 where
-    retargeted : (s : Names) → r.retargets ≡ true → r.source ≡ Some s → Stayed (is_kept rs) t s → place (turn_of rs) s ≡ q → MadeBy r q
-    created : r.source ≡ None → is_far r ≡ true → written r ≡ q → MadeBy r q
+    retargeted : (s : Names) → r.retargets ≡ true → r.source ≡ Some s → Stayed (is_kept rs) t s → place (route_of rs) s ≡ q → MadeBy r q
+    created : r.source ≡ None → is_elsewhere r ≡ true → written r ≡ q → MadeBy r q
 
   abbrev pub IsMadeAt : Names → Type 0
   IsMadeAt q = (r : Row) × Contains rs r × MadeBy r q
 
 module _ (t : FileTree) (rs : List Row) (made : List Node) (tree : IsTree t) (fine : IsWellFormed t rs) (are : AreRows t rs) where
-  made_by : (q : Names) (r : Row) → Contains rs r → is_fresh r ≡ true → fresh_place_of (place (turn_of rs)) r.source r ≡ q → MadeBy t rs r q
+  made_by : (q : Names) (r : Row) → Contains rs r → is_fresh r ≡ true → fresh_place_of (place (route_of rs)) r.source r ≡ q → MadeBy t rs r q
   made_by q r listed is at = by_source r.source refl
     where
       by_source : (x : Option Names) → r.source ≡ x → MadeBy t rs r q
-      by_source None none = let to = are.created r listed none in created none (ap (λ (x : Option Names). is_far_of x r.to) none ∙ ap (is_far_of None) to.1)
-          (sym (ap (λ (x : Option Names). fresh_place_of (place (turn_of rs)) x r) none) ∙ at)
+      by_source None none = let to = are.created r listed none in created none (ap (λ (x : Option Names). is_elsewhere_of x r.to) none ∙ ap (is_elsewhere_of None) to.1)
+          (sym (ap (λ (x : Option Names). fresh_place_of (place (route_of rs)) x r) none) ∙ at)
       by_source (Some s) some =
           retargeted s (no_other r.retargets (sym (ap (λ (x : Option Names). r.retargets || not (is_some x)) some) ∙ is)) some
           (source_stays t rs tree fine are r s listed is some)
-          (sym (ap (λ (x : Option Names). fresh_place_of (place (turn_of rs)) x r) some) ∙ at)
+          (sym (ap (λ (x : Option Names). fresh_place_of (place (route_of rs)) x r) some) ∙ at)
         where
           no_other : (b : Bool) → (b || false) ≡ true → b ≡ true
           no_other true e = refl
@@ -140,7 +140,7 @@ module _ (t : FileTree) (rs : List Row) (made : List Node) (tree : IsTree t) (fi
 
   made_at : (q : Names) → Contains (fresh_places rs) q → IsMadeAt t rs q
   made_at q c =
-      let m = map_parts (λ (r : Row). fresh_place_of (place (turn_of rs)) r.source r) (filter is_fresh rs) q c in
+      let m = map_parts (λ (r : Row). fresh_place_of (place (route_of rs)) r.source r) (filter is_fresh rs) q c in
       let f = filter_parts is_fresh rs m.0 m.1 in
       (m.0, f.0, made_by q m.0 f.0 f.1 m.2)
 
@@ -155,7 +155,7 @@ module _ (t : FileTree) (rs : List Row) (made : List Node) (tree : IsTree t) (fi
   fresh_found q node e = made_at q (zip_pair (fresh_places rs) made q node e).0
 
   -- nothing is made at a missing directory
-  no_fresh_missing : (r : Row) (u : Names) → Contains rs r → is_far r ≡ true → IsAbove u (written r) → IsAbsent t u → IsMadeAt t rs u → ⊥
+  no_fresh_missing : (r : Row) (u : Names) → Contains rs r → is_elsewhere r ≡ true → IsAbove u (written r) → IsAbsent t u → IsMadeAt t rs u → ⊥
   no_fresh_missing r u listed far above absent (o, listed_o, retargeted s retargets source stayed at) =
       let here : s ≡ u = there_already t rs tree fine are r s listed far stayed (subst (λ (l : Names). IsAbove l (written r)) (sym at) above) ∙ at in
       absent_not _ absent (subst (Stands t) here stayed.stands)
@@ -180,29 +180,29 @@ module _ (t : FileTree) (rs : List Row) (made : List Node) (tree : IsTree t) (fi
       by_made None z = let d = dirs_only (missing t rs) q node (sym (find-append_none q (zip (fresh_places rs) made) (map as_dir (missing t rs)) z) ∙ e) in is_missing d.0 d.1
 
   -- nothing is added at the place of a path that stays and is no retargeted link
-  pub nothing_added : (p : Names) → Stayed (is_kept rs) t p → ((r : Row) → Contains rs r → r.retargets ≡ true → r.source ≡ Some p → ⊥) → find path_cmp (place (turn_of rs) p) (added_by t rs made) ≡ None
-  nothing_added p stayed no_link = by_found (find path_cmp (place (turn_of rs) p) (added_by t rs made)) refl
+  pub nothing_added : (p : Names) → Stayed (is_kept rs) t p → ((r : Row) → Contains rs r → r.retargets ≡ true → r.source ≡ Some p → ⊥) → find path_cmp (place (route_of rs) p) (added_by t rs made) ≡ None
+  nothing_added p stayed no_link = by_found (find path_cmp (place (route_of rs) p) (added_by t rs made)) refl
     where
-      no_fresh : IsMadeAt t rs (place (turn_of rs) p) → ⊥
+      no_fresh : IsMadeAt t rs (place (route_of rs) p) → ⊥
       no_fresh (r, listed, retargeted s retargets source stayed_s at) =
-          no_link r listed retargets (source ∙ ap (λ (l : Names). Some l) (place-apart (Stayed (is_kept rs) t) (turn_of rs) (rows_apart t rs tree fine are) s p stayed_s stayed at))
+          no_link r listed retargets (source ∙ ap (λ (l : Names). Some l) (place-apart (Stayed (is_kept rs) t) (route_of rs) (rows_apart t rs tree fine are) s p stayed_s stayed at))
       no_fresh (r, listed, created none far at) = none-some p (sym none ∙ far_source t rs tree fine are r p listed far stayed (sym at))
 
-      none_here : (node : Node) → Added (place (turn_of rs) p) node → ⊥
-      none_here node (is_made e) = no_fresh (fresh_found (place (turn_of rs) p) node e)
+      none_here : (node : Node) → Added (place (route_of rs) p) node → ⊥
+      none_here node (is_made e) = no_fresh (fresh_found (place (route_of rs) p) node e)
       none_here node (is_missing c is) =
-          let m = missing_parts t rs (place (turn_of rs) p) c in
-          let here : p ≡ place (turn_of rs) p = there_already t rs tree fine are m.0 p m.1 m.2 stayed m.3 in
+          let m = missing_parts t rs (place (route_of rs) p) c in
+          let here : p ≡ place (route_of rs) p = there_already t rs tree fine are m.0 p m.1 m.2 stayed m.3 in
           absent_not _ m.4 (subst (Stands t) here stayed.stands)
 
-      by_found : (o : Option Node) → find path_cmp (place (turn_of rs) p) (added_by t rs made) ≡ o → find path_cmp (place (turn_of rs) p) (added_by t rs made) ≡ None
+      by_found : (o : Option Node) → find path_cmp (place (route_of rs) p) (added_by t rs made) ≡ o → find path_cmp (place (route_of rs) p) (added_by t rs made) ≡ None
       by_found None e = e
-      by_found (Some node) e = absurd (none_here node (added_as (place (turn_of rs) p) node e))
+      by_found (Some node) e = absurd (none_here node (added_as (place (route_of rs) p) node e))
 
   -- two rows that have something made at one path are one
   one_made : (r o : Row) (q : Names) → Contains rs r → Contains rs o → MadeBy t rs r q → MadeBy t rs o q → r ≡ o
   one_made r o q listed_r listed_o (retargeted s retargets source stayed at) (retargeted s' retargets' source' stayed' at') =
-      let same : s ≡ s' = place-apart (Stayed (is_kept rs) t) (turn_of rs) (rows_apart t rs tree fine are) s s' stayed stayed' (at ∙ sym at') in
+      let same : s ≡ s' = place-apart (Stayed (is_kept rs) t) (route_of rs) (rows_apart t rs tree fine are) s s' stayed stayed' (at ∙ sym at') in
       are.sources r o s' listed_r listed_o (source ∙ ap (λ (l : Names). Some l) same) source'
   one_made r o q listed_r listed_o (retargeted s retargets source stayed at) (created none far at') =
       absurd (none-some s (sym none ∙ far_source t rs tree fine are o s listed_o far stayed (at ∙ sym at')))
@@ -223,7 +223,7 @@ module _ (t : FileTree) (rs : List Row) (made : List Node) (tree : IsTree t) (fi
       omega arith) long)
     where
       place_of : Row → Names
-      place_of r = fresh_place_of (place (turn_of rs)) r.source r
+      place_of r = fresh_place_of (place (route_of rs)) r.source r
 
       at : (i : ℕ) (d : Row) → i < length (filter is_fresh rs) → Contains rs (get_or (filter is_fresh rs) i d) × (is_fresh (get_or (filter is_fresh rs) i d) ≡ true)
       at i d below = filter_parts is_fresh rs (get_or (filter is_fresh rs) i d) (Contains-get_or (filter is_fresh rs) i d below)

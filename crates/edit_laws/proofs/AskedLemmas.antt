@@ -21,10 +21,10 @@ use Rattle.tree_core.specs.declared.changes.Fresh.TheVariants as asks
 use Rattle.tree_core.specs.declared.changes.Changes.{Changes}
 use Rattle.tree_core.specs.declared.changes.Changes.TheVariants.{Edits, Removals, Creations}
 use Rattle.tree_core.specs.FileTree.{FileTree, IsTree, IsDir, IsFile, IsMode, IsLawful, Stands, is_dir_node}
-use Rattle.edit_check.specs.declared.row.Row.{Row}
-use Rattle.edit_check.specs.Rows.{rows, edit_row, removal_row, creation_row, is_far}
-use Rattle.edit_check.specs.Edited.{is_fresh, asked_fresh, HasFileNumber, IsMadeFor, HasOtherNumber, AreMadeFor, mode_named, is_number, number_at}
-use Rattle.edit_check.specs.WellFormed.{IsWellFormed, ShowsNode, IsEdit, IsFreshIn, AreLawful, CanBeAsked, HasOtherSource, IsNoRoot}
+use Rattle.edit_words.specs.declared.row.Row.{Row}
+use Rattle.edit_words.specs.Rows.{rows, edit_row, removal_row, creation_row, is_elsewhere}
+use Rattle.edit_words.specs.Edited.{is_fresh, asked_fresh, HasFileNumber, IsMadeFor, HasOtherNumber, AreMadeFor, mode_named, is_number, number_in}
+use Rattle.edit_words.specs.WellFormed.{IsWellFormed, ShowsNode, IsEdit, IsFreshIn, AreLawful, CanBeAsked, HasOtherSource, IsNoRoot}
 use Rattle.edit_laws.proofs.ListLemmas.{contains_head, contains_tail, contains_none, contains_cases, map_parts, zip_right, one, before, after, ordered}
 use Rattle.edit_laws.proofs.PlacedIsTree.{some_of}
 use Rattle.edit_laws.proofs.RowLemmas.{AreRows}
@@ -43,9 +43,9 @@ kind_of is_file (Removals removals) lawful r c = let m = map_parts removal_row r
 kind_of is_file (Creations creations) lawful r c = let m = map_parts creation_row creations r c in creation m.0 (sym m.2)
 
 -- nothing is removed, or nothing is moved or made
-kinds_of : (changes : Changes) → ((r : Row) → Contains (rows changes) r → r.removes ≡ false) ⊎ ((r : Row) → Contains (rows changes) r → (is_far r ≡ false) × (is_fresh r ≡ false))
+kinds_of : (changes : Changes) → ((r : Row) → Contains (rows changes) r → r.removes ≡ false) ⊎ ((r : Row) → Contains (rows changes) r → (is_elsewhere r ≡ false) × (is_fresh r ≡ false))
 kinds_of (Edits edits) = inl (λ r c. let m = map_parts edit_row edits r c in ap (λ (x : Row). x.removes) (sym m.2))
-kinds_of (Removals removals) = inr (λ r c. let m = map_parts removal_row removals r c in (ap is_far (sym m.2), ap is_fresh (sym m.2)))
+kinds_of (Removals removals) = inr (λ r c. let m = map_parts removal_row removals r c in (ap is_elsewhere (sym m.2), ap is_fresh (sym m.2)))
 kinds_of (Creations creations) = inl (λ r c. let m = map_parts creation_row creations r c in ap (λ (x : Row). x.removes) (sym m.2))
 
 -- what is shown as a link is no directory
@@ -73,7 +73,7 @@ module _ (t : FileTree) (changes : Changes) (asked : CanBeAsked (IsFile t) chang
   ]
 
   shown_at : (r : Row) (s : Names) (was : Shown) → Contains (rows changes) r → r.source ≡ Some s → r.was ≡ Some was → (node : Node) × (get t s ≡ Some node) × ShowsNode was node
-  shown_at r s was c source shown = fine.fresh r c s was source shown
+  shown_at r s was c source shown = fine.shown r c s was source shown
 
   standing_as : (r : Row) (s : Names) → Contains (rows changes) r → r.source ≡ Some s → KindOf r → Stands t s
   standing_as r s c source (edit e lawful is) = ap is_some (shown_at r s e.was c source (ap (λ (x : Row). x.was) is)).1
@@ -198,8 +198,8 @@ asked_count (Creations creations) = creations_count creations
 no_mode : (t : FileTree) (rs : List Row) (number : ℕ) → ((r : Row) → Contains rs r → r.mode ≡ None) → mode_named t rs number ≡ None
 no_mode t [] number none = refl
 no_mode t (r ∷ rs) number none =
-    cond-false (is_some r.mode && is_number number (number_at t r.source)) r.mode (mode_named t rs number)
-    (ap (λ (o : Option ℕ). is_some o && is_number number (number_at t r.source)) (none r (contains_head r rs)))
+    cond-false (is_some r.mode && is_number number (number_in t r.source)) r.mode (mode_named t rs number)
+    (ap (λ (o : Option ℕ). is_some o && is_number number (number_in t r.source)) (none r (contains_head r rs)))
     ∙ no_mode t rs number (λ x c. none x (contains_tail r x rs c))
 
 module _ (t : FileTree) (changes : Changes) (tree : IsTree t) (asked : CanBeAsked (IsFile t) changes) (made : List Node) (made_for : AreMadeFor t changes made) where

@@ -11,15 +11,15 @@ use Rattle.tree_core.specs.declared.node.Node.{Node}
 use Rattle.tree_core.specs.declared.node.Node.TheVariants.{Dir, Link, File}
 use Rattle.tree_core.specs.FileTree.{FileTree, IsTree, IsDir, IsMode, IsLawful}
 use Rattle.tree_core.proofs.TreeLemmas.{dir_stands}
-use Rattle.edit_check.specs.declared.row.Row.{Row}
-use Rattle.edit_check.specs.declared.row.Turn.TheVariants.{Sent}
-use Rattle.edit_check.specs.Place.{turned, place, IsAbove}
-use Rattle.edit_check.specs.Rows.{row_from, is_at, written, is_far, turn_of, is_kept}
-use Rattle.edit_check.specs.Edited.{Came, missing, is_fresh, fresh_places, fresh_place_of, with_new_mode, mode_named, mode_of_row, number_at, is_number, added_by, edited, IsEdited}
-use Rattle.edit_check.specs.WellFormed.{IsWellFormed, LinesRise}
+use Rattle.edit_words.specs.declared.row.Row.{Row}
+use Rattle.edit_words.specs.declared.row.Route.TheVariants.{Sent}
+use Rattle.edit_words.specs.Place.{routed, place, IsAbove}
+use Rattle.edit_words.specs.Rows.{row_from, is_at, written, is_elsewhere, route_of, is_kept}
+use Rattle.edit_words.specs.Edited.{Came, missing, is_fresh, fresh_places, fresh_place_of, with_new_mode, mode_named, mode_of_row, number_in, is_number, added_by, edited, IsEdited}
+use Rattle.edit_words.specs.WellFormed.{IsWellFormed, LinesRise}
 use Rattle.edit_laws.specs.Laws.{is_retargeted, goes, StandsAsEdited}
 use Rattle.edit_laws.proofs.ListLemmas.{contains_head, contains_tail, any_parts, any_from, contains_map, contains_filter, zip_left, zip_weaker}
-use Rattle.edit_laws.proofs.PlaceLemmas.{by_last, place-push, place-apart, IsApart, push_not_root, View, sent, near, view, turned-sent}
+use Rattle.edit_laws.proofs.PlaceLemmas.{by_last, place-push, place-apart, IsApart, push_not_root, View, sent, near, view, routed-sent}
 use Rattle.edit_laws.proofs.PlacedLemmas.{placed_tree-IsPlaced}
 use Rattle.edit_laws.proofs.PlacedIsTree.{IsDirNode, Stayed, IsHeldUp, placed_is_tree}
 use Rattle.edit_laws.proofs.RowLemmas.{AreRows, row_from-some, is_at-true, is_at-same, rows_apart, settled, sent_far, root_kept}
@@ -31,7 +31,7 @@ use Rattle.edit_laws.proofs.AddedLemmas.{missing_there, missing_parts, IsMadeAt,
 -- a mode that is named is that of a row
 named_row : (t : FileTree) (rs : List Row) (number mode : ℕ) → mode_named t rs number ≡ Some mode → (r : Row) × Contains rs r × (r.mode ≡ Some mode)
 named_row t [] number mode e = absurd (none-some mode e)
-named_row t (r ∷ rs) number mode e = elim (cases_Bool (is_some r.mode && is_number number (number_at t r.source))) [
+named_row t (r ∷ rs) number mode e = elim (cases_Bool (is_some r.mode && is_number number (number_in t r.source))) [
   | inl here ↦ (r, contains_head r rs, sym (cond-true _ r.mode (mode_named t rs number) here) ∙ e)
   | inr other ↦ let more = named_row t rs number mode (sym (cond-false _ r.mode (mode_named t rs number) other) ∙ e) in (more.0, contains_tail r more.0 rs more.1, more.2)
 ]
@@ -71,29 +71,29 @@ goes_parts rs p e = let parts = and_parts (is_kept rs p) (not (is_retargeted rs 
     (parts.0, λ r listed retargets source. let both : true ≡ false = sym (retargets_from rs r p listed retargets source) ∙ not-true _ parts.1 in cc)
 
 -- the place of a retargeted link is one where an entry is made
-retargeted_place : (rs : List Row) (r : Row) (p : Names) → Contains rs r → r.retargets ≡ true → r.source ≡ Some p → Contains (fresh_places rs) (place (turn_of rs) p)
-retargeted_place rs r p listed retargets source = subst (Contains (fresh_places rs)) (ap (λ (x : Option Names). fresh_place_of (place (turn_of rs)) x r) source)
-    (contains_map (λ (r : Row). fresh_place_of (place (turn_of rs)) r.source r) (filter is_fresh rs) r
+retargeted_place : (rs : List Row) (r : Row) (p : Names) → Contains rs r → r.retargets ≡ true → r.source ≡ Some p → Contains (fresh_places rs) (place (route_of rs) p)
+retargeted_place rs r p listed retargets source = subst (Contains (fresh_places rs)) (ap (λ (x : Option Names). fresh_place_of (place (route_of rs)) x r) source)
+    (contains_map (λ (r : Row). fresh_place_of (place (route_of rs)) r.source r) (filter is_fresh rs) r
     (contains_filter is_fresh rs r listed (ap (λ (b : Bool). b || not (is_some r.source)) retargets)))
 
 -- ---- the edited tree
 
 module _ (t : FileTree) (rs : List Row) (made : List Node) (tree : IsTree t) (fine : IsWellFormed t rs) (are : AreRows t rs) where
-  fits : IsApart (Stayed (is_kept rs) t) (turn_of rs)
+  fits : IsApart (Stayed (is_kept rs) t) (route_of rs)
   fits = rows_apart t rs tree fine are
 
   pub edited-IsEdited : IsEdited t rs made (edited t rs made)
-  edited-IsEdited = placed_tree-IsPlaced (is_kept rs) (place (turn_of rs)) (with_new_mode t rs) (added_by t rs made) t
-      (λ p q kept_p kept_q stands_p stands_q same. place-apart (Stayed (is_kept rs) t) (turn_of rs) fits q p
+  edited-IsEdited = placed_tree-IsPlaced (is_kept rs) (place (route_of rs)) (with_new_mode t rs) (added_by t rs made) t
+      (λ p q kept_p kept_q stands_p stands_q same. place-apart (Stayed (is_kept rs) t) (route_of rs) fits q p
       (record { kept = kept_q; stands = stands_q }) (record { kept = kept_p; stands = stands_p }) same)
 
   module _ (new : FileTree) (is : IsEdited t rs made new) (lines : LinesRise rs) (long : length made ≡ length (filter is_fresh rs)) where
     stands_where : (q : Names) (node : Node) → get new q ≡ Some node
-        → Came (goes rs) (place (turn_of rs)) (with_new_mode t rs) t q node ⊎ (Contains (zip (fresh_places rs) made) (q, node) ⊎ (Contains (missing t rs) q × (node ≡ Dir 0o755)))
+        → Came (goes rs) (place (route_of rs)) (with_new_mode t rs) t q node ⊎ (Contains (zip (fresh_places rs) made) (q, node) ⊎ (Contains (missing t rs) q × (node ≡ Dir 0o755)))
     stands_where q node e = by_added (find path_cmp q (added_by t rs made)) refl
       where
         by_added : (o : Option Node) → find path_cmp q (added_by t rs made) ≡ o
-            → Came (goes rs) (place (turn_of rs)) (with_new_mode t rs) t q node ⊎ (Contains (zip (fresh_places rs) made) (q, node) ⊎ (Contains (missing t rs) q × (node ≡ Dir 0o755)))
+            → Came (goes rs) (place (route_of rs)) (with_new_mode t rs) t q node ⊎ (Contains (zip (fresh_places rs) made) (q, node) ⊎ (Contains (missing t rs) q × (node ≡ Dir 0o755)))
         by_added (Some x) found = elim (added_as t rs made tree fine are q node (found ∙ sym (is.added_stand q x found) ∙ e)) [
           | is_made at ↦ inr (inl (zip_pair (fresh_places rs) made q node at).2)
           | is_missing at dir ↦ inr (inr (at, dir))
@@ -110,16 +110,16 @@ module _ (t : FileTree) (rs : List Row) (made : List Node) (tree : IsTree t) (fi
           })
         ]
           where
-            no_link : (came : Came (is_kept rs) (place (turn_of rs)) (with_new_mode t rs) t q node) → is_retargeted rs came.path ≡ false
+            no_link : (came : Came (is_kept rs) (place (route_of rs)) (with_new_mode t rs) t q node) → is_retargeted rs came.path ≡ false
             no_link came = false_from_ne_true _ (λ link.
                 let r = any_parts (λ (r : Row). r.retargets && is_at came.path r.source) rs link in
                 let parts = and_parts r.0.retargets (is_at came.path r.0.source) r.2 in
                 let there = fresh_there r.0 came.path r.1 parts.0 (is_at-true came.path r.0.source parts.1) in
                 none-some there.0 (sym none ∙ ap (λ (l : Names). find path_cmp l (added_by t rs made)) (sym came.here) ∙ there.1))
               where
-                fresh_there : (r : Row) (p : Names) → Contains rs r → r.retargets ≡ true → r.source ≡ Some p → (n : Node) × (find path_cmp (place (turn_of rs) p) (added_by t rs made) ≡ Some n)
+                fresh_there : (r : Row) (p : Names) → Contains rs r → r.retargets ≡ true → r.source ≡ Some p → (n : Node) × (find path_cmp (place (route_of rs) p) (added_by t rs made) ≡ Some n)
                 fresh_there r p listed retargets source =
-                    let there = zip_left _ (fresh_places rs) made (place (turn_of rs) p) (made_found t rs made tree fine are lines long) (retargeted_place rs r p listed retargets source) in
+                    let there = zip_left _ (fresh_places rs) made (place (route_of rs) p) (made_found t rs made tree fine are lines long) (retargeted_place rs r p listed retargets source) in
                     (there.0, there.2)
 
     pub stands_as_edited : StandsAsEdited t rs made new
@@ -135,36 +135,36 @@ module _ (t : FileTree) (rs : List Row) (made : List Node) (tree : IsTree t) (fi
 
   module _ (made_are : AreMadeRows t rs made) where
     abbrev Above : Names → Type 0
-    Above u = IsDirNode (find path_cmp u (added_by t rs made)) ⊎ (Stayed (is_kept rs) t u × IsDir t u × (place (turn_of rs) u ≡ u))
+    Above u = IsDirNode (find path_cmp u (added_by t rs made)) ⊎ (Stayed (is_kept rs) t u × IsDir t u × (place (route_of rs) u ≡ u))
 
-    above_far_path : (r : Row) (u : Names) → Contains rs r → is_far r ≡ true → IsAbove u (written r) → Above u
+    above_far_path : (r : Row) (u : Names) → Contains rs r → is_elsewhere r ≡ true → IsAbove u (written r) → Above u
     above_far_path r u listed far above = by_get (get t u) refl
       where
         by_get : (o : Option Node) → get t u ≡ o → Above u
         by_get (Some node) e = inr (settled t rs tree fine are r u listed far above (ap is_some e))
         by_get None e = inl (subst IsDirNode (sym (missing_found t rs made tree fine are u (missing_there t rs r u listed far above e))) refl)
 
-    above_sent : (p w u : Names) → Stayed (is_kept rs) t p → turn_of rs p ≡ Sent w → IsAbove u w → Above u
+    above_sent : (p w u : Names) → Stayed (is_kept rs) t p → route_of rs p ≡ Sent w → IsAbove u w → Above u
     above_sent p w u stayed away above = let r = sent_far t rs tree fine are p w away in above_far_path r.0 u r.1 r.2 (subst (IsAbove u) (sym r.3) above)
 
     abbrev AboveAdded : Names → Type 0
-    AboveAdded q = IsDirNode (find path_cmp q (added_by t rs made)) ⊎ ((p : Names) × Stayed (is_kept rs) t p × IsDir t p × (place (turn_of rs) p ≡ q))
+    AboveAdded q = IsDirNode (find path_cmp q (added_by t rs made)) ⊎ ((p : Names) × Stayed (is_kept rs) t p × IsDir t p × (place (route_of rs) p ≡ q))
 
     weaker : (q : Names) → Above q → AboveAdded q
     weaker q (inl dir) = inl dir
     weaker q (inr (stayed, dir, at)) = inr (q, stayed, dir, at)
 
-    above_place : (q : Names) (n : List ℕ) (s : Names) → Stayed (is_kept rs) t s → place (turn_of rs) s ≡ q ++ n ∷ [] → AboveAdded q
-    above_place q n = by_last (λ s. Stayed (is_kept rs) t s → place (turn_of rs) s ≡ q ++ n ∷ [] → AboveAdded q)
+    above_place : (q : Names) (n : List ℕ) (s : Names) → Stayed (is_kept rs) t s → place (route_of rs) s ≡ q ++ n ∷ [] → AboveAdded q
+    above_place q n = by_last (λ s. Stayed (is_kept rs) t s → place (route_of rs) s ≡ q ++ n ∷ [] → AboveAdded q)
         (λ stayed at. absurd (push_not_root q n (sym at)))
-        (λ p m before stayed at. go p m stayed (view (turn_of rs (p ++ m ∷ [])) m) (sym (place-push (turn_of rs) p m) ∙ at))
+        (λ p m before stayed at. go p m stayed (view (route_of rs (p ++ m ∷ [])) m) (sym (place-push (route_of rs) p m) ∙ at))
       where
-        go : (p : Names) (m : List ℕ) → Stayed (is_kept rs) t (p ++ m ∷ []) → View (turn_of rs (p ++ m ∷ [])) m → turned (turn_of rs (p ++ m ∷ [])) (place (turn_of rs) p) m ≡ q ++ n ∷ [] → AboveAdded q
+        go : (p : Names) (m : List ℕ) → Stayed (is_kept rs) t (p ++ m ∷ []) → View (route_of rs (p ++ m ∷ [])) m → routed (route_of rs (p ++ m ∷ [])) (place (route_of rs) p) m ≡ q ++ n ∷ [] → AboveAdded q
         go p m stayed (sent w away) at =
-            let w_is : w ≡ q ++ n ∷ [] = sym (turned-sent (turn_of rs) (p ++ m ∷ []) (place (turn_of rs) p) m w away) ∙ at in
+            let w_is : w ≡ q ++ n ∷ [] = sym (routed-sent (route_of rs) (p ++ m ∷ []) (place (route_of rs) p) m w away) ∙ at in
             weaker q (above_sent (p ++ m ∷ []) w q stayed away (n, [], w_is))
         go p m stayed (near k near_by) at =
-            inr (p, fits.up p m stayed, tree.parents p m stayed.stands, (same_from_push (place (turn_of rs) p) q k n (sym (near_by (place (turn_of rs) p)) ∙ at)).0)
+            inr (p, fits.up p m stayed, tree.parents p m stayed.stands, (same_from_push (place (route_of rs) p) q k n (sym (near_by (place (route_of rs) p)) ∙ at)).0)
 
     above_made : (q : Names) (n : List ℕ) → IsMadeAt t rs (q ++ n ∷ []) → AboveAdded q
     above_made q n (r, listed, retargeted s retargets source stayed at) = above_place q n s stayed at
@@ -197,7 +197,7 @@ module _ (t : FileTree) (rs : List Row) (made : List Node) (tree : IsTree t) (fi
         lawful_dir : IsMode 0o755
         lawful_dir = omega arith
 
-    held_up : IsHeldUp (added_by t rs made) (is_kept rs) (turn_of rs) (with_new_mode t rs) (λ number m. unwrap_or (mode_named t rs number) m) t
+    held_up : IsHeldUp (added_by t rs made) (is_kept rs) (route_of rs) (with_new_mode t rs) (λ number m. unwrap_or (mode_named t rs number) m) t
     held_up = record {
       root = root_kept t rs tree fine are;
       directories = λ p kept dir. nothing_added t rs made tree fine are p (record { kept = kept; stands = dir_stands _ dir }) (λ r listed retargets source. are.no_dir r p listed retargets source dir);
@@ -214,5 +214,5 @@ module _ (t : FileTree) (rs : List Row) (made : List Node) (tree : IsTree t) (fi
     }
 
     pub edited_is_tree : IsTree (edited t rs made)
-    edited_is_tree = placed_is_tree (added_by t rs made) (is_kept rs) (turn_of rs) (with_new_mode t rs) (λ number m. unwrap_or (mode_named t rs number) m) t (edited t rs made)
+    edited_is_tree = placed_is_tree (added_by t rs made) (is_kept rs) (route_of rs) (with_new_mode t rs) (λ number m. unwrap_or (mode_named t rs number) m) t (edited t rs made)
         tree fits held_up edited-IsEdited

@@ -8,4 +8,4 @@ pub mod AddedLemmas
 pub mod EditedLemmas
 pub mod LineLemmas
 pub mod VictimLemmas
-pub mod FrontLemmas
+pub mod ShortestLemmas

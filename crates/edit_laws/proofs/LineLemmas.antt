@@ -9,14 +9,14 @@ use Rattle.tree_core.specs.declared.node.Node.{Node}
 use Rattle.tree_core.specs.declared.node.Node.TheVariants.{Dir, Link, File}
 use Rattle.tree_core.specs.declared.changes.Changes.{Changes}
 use Rattle.tree_core.specs.FileTree.{FileTree, IsFile, mode_of}
-use Rattle.edit_check.specs.declared.row.Row.{Row}
-use Rattle.edit_check.specs.declared.row.Turn.{Turn}
-use Rattle.edit_check.specs.declared.row.Turn.TheVariants.{Stays, Named, Sent}
-use Rattle.edit_check.specs.Place.{turned, place}
-use Rattle.edit_check.specs.Rows.{rows, is_same_path, row_from, written, is_far, is_far_of, last_name, turn_to, turn_by, turn_of}
-use Rattle.edit_check.specs.Edited.{number_of, number_at, is_number, mode_named, mode_of_row, with_new_mode}
-use Rattle.edit_check.specs.WellFormed.{IsWellFormed, CanBeAsked, HasNumber}
-use Rattle.edit_laws.specs.Lines.{IsCarriedOut, GivesMode}
+use Rattle.edit_words.specs.declared.row.Row.{Row}
+use Rattle.edit_words.specs.declared.row.Route.{Route}
+use Rattle.edit_words.specs.declared.row.Route.TheVariants.{Stays, Named, Sent}
+use Rattle.edit_words.specs.Place.{routed, place}
+use Rattle.edit_words.specs.Rows.{rows, is_same_path, row_from, written, is_elsewhere, is_elsewhere_of, last_name, route_to, route_by, route_of}
+use Rattle.edit_words.specs.Edited.{node_number, number_in, is_number, mode_named, mode_of_row, with_new_mode}
+use Rattle.edit_words.specs.WellFormed.{IsWellFormed, CanBeAsked, HasNumber}
+use Rattle.edit_laws.specs.Lines.{IsCarriedOut, HasNewPlaces, GivesMode}
 use Rattle.edit_laws.proofs.ListLemmas.{contains_head, contains_tail, contains_none, contains_cases}
 use Rattle.edit_laws.proofs.PlaceLemmas.{by_last, place-push}
 use Rattle.edit_laws.proofs.PlacedIsTree.{some_of}
@@ -25,16 +25,16 @@ use Rattle.edit_laws.proofs.AskedLemmas.{rows_are, no_link}
 
 -- ---- places
 
--- a path that isn't the root is turned from its parent's place
-place_by : (turn : Names → Turn) (p : Names) → p ≢ [] → place turn p ≡ turned (turn p) (place turn (parent p)) (last_name p)
-place_by turn = by_last (λ p. p ≢ [] → place turn p ≡ turned (turn p) (place turn (parent p)) (last_name p)) (λ no. absurd (no refl)) (λ p n before no.
-    place-push turn p n
-    ∙ ap (λ (l : Names). turned (turn (p ++ n ∷ [])) (place turn l) n) (sym (parent-push p n))
-    ∙ ap (λ (m : List ℕ). turned (turn (p ++ n ∷ [])) (place turn (parent (p ++ n ∷ []))) m) (sym (last_name-push p n)))
+-- a path that isn't the root is routed from its parent's place
+place_by : (route : Names → Route) (p : Names) → p ≢ [] → place route p ≡ routed (route p) (place route (parent p)) (last_name p)
+place_by route = by_last (λ p. p ≢ [] → place route p ≡ routed (route p) (place route (parent p)) (last_name p)) (λ no. absurd (no refl)) (λ p n before no.
+    place-push route p n
+    ∙ ap (λ (l : Names). routed (route (p ++ n ∷ [])) (place route l) n) (sym (parent-push p n))
+    ∙ ap (λ (m : List ℕ). routed (route (p ++ n ∷ [])) (place route (parent (p ++ n ∷ []))) m) (sym (last_name-push p n)))
 
 -- ---- numbers of files
 
-number_parts : (o : Option Node) (number : ℕ) → is_number number (number_of o) ≡ true → (bytes : List ℕ) × (mode : ℕ) × (o ≡ Some (File number bytes mode))
+number_parts : (o : Option Node) (number : ℕ) → is_number number (node_number o) ≡ true → (bytes : List ℕ) × (mode : ℕ) × (o ≡ Some (File number bytes mode))
 number_parts None number e = cc
 number_parts (Some (Dir mode)) number e = cc
 number_parts (Some (Link target)) number e = cc
@@ -42,21 +42,21 @@ number_parts (Some (File n bytes mode)) number e =
     let same : number ≡ n = eqb-true number n e in
     (bytes, mode, ap (λ (m : ℕ). Some (File m bytes mode)) (sym same))
 
-number_parts_at : (t : FileTree) (r : Row) (number : ℕ) → is_number number (number_at t r.source) ≡ true → HasNumber t r number
+number_parts_at : (t : FileTree) (r : Row) (number : ℕ) → is_number number (number_in t r.source) ≡ true → HasNumber t r number
 number_parts_at t r number e = go r.source refl
   where
     go : (o : Option Names) → r.source ≡ o → HasNumber t r number
-    go None none = let no : false ≡ true = sym (ap (λ (o : Option Names). is_number number (number_at t o)) none) ∙ e in absurd cc
+    go None none = let no : false ≡ true = sym (ap (λ (o : Option Names). is_number number (number_in t o)) none) ∙ e in absurd cc
     go (Some s) some =
-        let parts = number_parts (get t s) number (sym (ap (λ (o : Option Names). is_number number (number_at t o)) some) ∙ e) in
+        let parts = number_parts (get t s) number (sym (ap (λ (o : Option Names). is_number number (number_in t o)) some) ∙ e) in
         (s, parts.0, parts.1, some, parts.2)
 
-number_from : (t : FileTree) (r : Row) (number : ℕ) → HasNumber t r number → is_number number (number_at t r.source) ≡ true
+number_from : (t : FileTree) (r : Row) (number : ℕ) → HasNumber t r number → is_number number (number_in t r.source) ≡ true
 number_from t r number (s, bytes, mode, source, at) =
-    ap (λ (o : Option Names). is_number number (number_at t o)) source ∙ ap (λ (o : Option Node). is_number number (number_of o)) at ∙ eq-eqb number number refl
+    ap (λ (o : Option Names). is_number number (number_in t o)) source ∙ ap (λ (o : Option Node). is_number number (node_number o)) at ∙ eq-eqb number number refl
 
 abbrev names : FileTree → ℕ → Row → Bool
-names t number r = is_some r.mode && is_number number (number_at t r.source)
+names t number r = is_some r.mode && is_number number (number_in t r.source)
 
 -- where a row names a mode of a file, the mode that is named is that of such a row
 named_by : (t : FileTree) (rs : List Row) (number : ℕ) (r : Row) → Contains rs r → names t number r ≡ true → (o : Row) × Contains rs o × (names t number o ≡ true) × (mode_named t rs number ≡ o.mode)
@@ -91,7 +91,7 @@ others_keep t rs p (Dir mode) none = ap (λ (o : Option ℕ). Dir (unwrap_or o m
     by_row (Some r) is = ap mode_of_row is ∙ by_mode r r.mode is refl
 others_keep t rs p (Link target) none = refl
 others_keep t rs p (File number bytes mode) none = ap (λ (o : Option ℕ). File number bytes (unwrap_or o mode)) (none_named t rs number (λ r c. false_from_ne_true _ (λ e.
-    let parts = and_parts (is_some r.mode) (is_number number (number_at t r.source)) e in
+    let parts = and_parts (is_some r.mode) (is_number number (number_in t r.source)) e in
     none r c (parts.0, inr (number, number_parts_at t r number parts.1, refl)))))
 
 -- ---- lines
@@ -107,36 +107,36 @@ module _ (t : FileTree) (changes : Changes) (asked : CanBeAsked (IsFile t) chang
       let there = row_from-some (rows changes) s o.0 o.1 in
       o.1 ∙ ap (λ (x : Row). Some x) (are.sources o.0 r s there.0 listed there.1 source)
 
-  turn_is : turn_of (rows changes) s ≡ turn_to s r.to
-  turn_is = ap (turn_by s) found
+  turn_is : route_of (rows changes) s ≡ route_to s r.to
+  turn_is = ap (route_by s) found
 
   source_not_root : s ≢ []
   source_not_root root = (are.not_root r listed).0 (source ∙ ap (λ (l : Names). Some l) root)
 
-  place_is : (turn : Turn) → turn_to s r.to ≡ turn → place (turn_of (rows changes)) s ≡ turned turn (place (turn_of (rows changes)) (parent s)) (last_name s)
-  place_is turn is = place_by (turn_of (rows changes)) s source_not_root ∙ ap (λ (a : Turn). turned a (place (turn_of (rows changes)) (parent s)) (last_name s)) (turn_is ∙ is)
+  place_is : (route : Route) → route_to s r.to ≡ route → place (route_of (rows changes)) s ≡ routed route (place (route_of (rows changes)) (parent s)) (last_name s)
+  place_is route is = place_by (route_of (rows changes)) s source_not_root ∙ ap (λ (a : Route). routed a (place (route_of (rows changes)) (parent s)) (last_name s)) (turn_is ∙ is)
 
-  far_is : (w : Names) → r.to ≡ Some w → is_far r ≡ not (is_same_path (parent s) (parent w))
-  far_is w to = ap (λ (x : Option Names). is_far_of x r.to) source ∙ ap (is_far_of (Some s)) to
+  far_is : (w : Names) → r.to ≡ Some w → is_elsewhere r ≡ not (is_same_path (parent s) (parent w))
+  far_is w to = ap (λ (x : Option Names). is_elsewhere_of x r.to) source ∙ ap (is_elsewhere_of (Some s)) to
 
-  carried_far : is_far r ≡ true → place (turn_of (rows changes)) s ≡ written r
+  carried_far : is_elsewhere r ≡ true → place (route_of (rows changes)) s ≡ written r
   carried_far far =
       let to = far_to r far in
       let apart : is_same_path (parent s) (parent to.0) ≡ false = not-true _ (sym (far_is to.0 to.1) ∙ far) in
-      place_is (Sent to.0) (ap (turn_to s) to.1 ∙ cond-false _ (Named (last_name to.0)) (Sent to.0) apart) ∙ sym (written-to r to.0 to.1)
+      place_is (Sent to.0) (ap (route_to s) to.1 ∙ cond-false _ (Named (last_name to.0)) (Sent to.0) apart) ∙ sym (written-to r to.0 to.1)
 
-  same_dir : (w : Names) → r.to ≡ Some w → is_far r ≡ false → is_same_path (parent s) (parent w) ≡ true
+  same_dir : (w : Names) → r.to ≡ Some w → is_elsewhere r ≡ false → is_same_path (parent s) (parent w) ≡ true
   same_dir w to near = elim (cases_Bool (is_same_path (parent s) (parent w))) [
     | inl same ↦ same
     | inr apart ↦ let both : false ≡ true = sym near ∙ far_is w to ∙ ap not apart in absurd cc
   ]
 
-  carried_near : (w : Names) → r.to ≡ Some w → is_far r ≡ false
-      → (w ≡ parent s ++ last_name w ∷ []) × (place (turn_of (rows changes)) s ≡ place (turn_of (rows changes)) (parent s) ++ last_name w ∷ [])
+  carried_near : (w : Names) → r.to ≡ Some w → is_elsewhere r ≡ false
+      → (w ≡ parent s ++ last_name w ∷ []) × (place (route_of (rows changes)) s ≡ place (route_of (rows changes)) (parent s) ++ last_name w ∷ [])
   carried_near w to near =
       let same : is_same_path (parent s) (parent w) ≡ true = same_dir w to near in (
         front_last w (λ root. (are.not_root r listed).1 (to ∙ ap (λ (l : Names). Some l) root)) ∙ ap (λ (l : Names). l ++ last_name w ∷ []) (sym ((path_decides (parent s) (parent w)).0 same)),
-        place_is (Named (last_name w)) (ap (turn_to s) to ∙ cond-true _ (Named (last_name w)) (Sent w) same),
+        place_is (Named (last_name w)) (ap (route_to s) to ∙ cond-true _ (Named (last_name w)) (Sent w) same),
       )
 
   carried_mode : (mode : ℕ) (node : Node) → r.mode ≡ Some mode → get t s ≡ Some node → mode_of (with_new_mode t (rows changes) s node) ≡ mode
@@ -150,18 +150,35 @@ module _ (t : FileTree) (changes : Changes) (asked : CanBeAsked (IsFile t) chang
 
       named : (o : Row) × Contains (rows changes) o × (names t number o ≡ true) × (mode_named t (rows changes) number ≡ o.mode)
       named = named_by t (rows changes) number r listed
-          (ap (λ (o : Option ℕ). is_some o && is_number number (number_at t r.source)) is ∙ number_from t r number here)
+          (ap (λ (o : Option ℕ). is_some o && is_number number (number_in t r.source)) is ∙ number_from t r number here)
 
-      parts : (is_some named.0.mode ≡ true) × (is_number number (number_at t named.0.source) ≡ true)
-      parts = and_parts (is_some named.0.mode) (is_number number (number_at t named.0.source)) named.2
+      parts : (is_some named.0.mode ≡ true) × (is_number number (number_in t named.0.source) ≡ true)
+      parts = and_parts (is_some named.0.mode) (is_number number (number_in t named.0.source)) named.2
 
       named_mode : (m : ℕ) × (named.0.mode ≡ Some m)
       named_mode = some_of named.0.mode parts.0
 
   pub carried_out : IsCarriedOut t (rows changes) r s
   carried_out = record {
-    far = carried_far;
-    near = carried_near;
-    still = λ to. place_is Stays (ap (turn_to s) to);
+    elsewhere = carried_far;
+    in_place = carried_near;
+    still = λ to. place_is Stays (ap (route_to s) to);
     mode = carried_mode;
   }
+
+-- ---- the new place by its cases
+
+other_place : (rs : List Row) (p : Names) → p ≢ [] → ((r : Row) → Contains rs r → r.source ≡ Some p → r.to ≡ None) → place (route_of rs) p ≡ place (route_of rs) (parent p) ++ last_name p ∷ []
+other_place rs p some none = place_by (route_of rs) p some ∙ ap (λ (a : Route). routed a (place (route_of rs) (parent p)) (last_name p)) (by_row (row_from rs p) refl)
+  where
+    by_row : (o : Option Row) → row_from rs p ≡ o → route_of rs p ≡ Stays
+    by_row None is = ap (route_by p) is
+    by_row (Some r) is = let found = row_from-some rs p r is in ap (route_by p) is ∙ ap (route_to p) (none r found.0 found.1)
+
+pub by_cases : (t : FileTree) (changes : Changes) → CanBeAsked (IsFile t) changes → IsWellFormed t (rows changes) → HasNewPlaces (rows changes)
+by_cases t changes asked fine = record {
+  root = refl;
+  in_place = λ r p w listed source to here. ((carried_out t changes asked fine r p listed source).in_place w to here).1;
+  elsewhere = λ r p listed source far. (carried_out t changes asked fine r p listed source).elsewhere far;
+  other = other_place (rows changes);
+}

@@ -7,11 +7,11 @@ use Rattle.tree_core.specs.declared.node.Node.{Node}
 use Rattle.tree_core.specs.declared.node.Node.TheVariants.{Dir, Link, File}
 use Rattle.tree_core.specs.FileTree.{FileTree, IsTree, IsDir, Stands, IsLawful, is_dir_node}
 use Rattle.tree_core.proofs.TreeLemmas.{dir_stands}
-use Rattle.edit_check.specs.declared.row.Turn.{Turn}
-use Rattle.edit_check.specs.declared.row.Turn.TheVariants.{Sent}
-use Rattle.edit_check.specs.Place.{turned, place, IsAbove}
-use Rattle.edit_check.specs.Edited.{Entries, IsPlaced, Came}
-use Rattle.edit_laws.proofs.PlaceLemmas.{by_last, place-push, View, sent, near, view, IsApart, push_not_root, turned-sent}
+use Rattle.edit_words.specs.declared.row.Route.{Route}
+use Rattle.edit_words.specs.declared.row.Route.TheVariants.{Sent}
+use Rattle.edit_words.specs.Place.{routed, place, IsAbove}
+use Rattle.edit_words.specs.Edited.{Entries, IsPlaced, Came}
+use Rattle.edit_laws.proofs.PlaceLemmas.{by_last, place-push, View, sent, near, view, IsApart, push_not_root, routed-sent}
 
 abbrev pub IsDirNode : Option Node → Type 0
 IsDirNode o = IsTrue (is_dir_node o)
@@ -32,20 +32,20 @@ pub record Stayed (keeps : Names → Bool) (t : FileTree) (p : Names) : Type 0 w
   pub stands : Stands t p
 
 -- What makes a tree of it.
-pub record IsHeldUp (added : Entries) (keeps : Names → Bool) (turn : Names → Turn) (shown : Names → Node → Node) (named : ℕ → ℕ → ℕ) (t : FileTree) : Type 0 where
+pub record IsHeldUp (added : Entries) (keeps : Names → Bool) (route : Names → Route) (shown : Names → Node → Node) (named : ℕ → ℕ → ℕ) (t : FileTree) : Type 0 where
   pub root : keeps [] ≡ true
   -- nothing is added where a directory goes, which stays one
-  pub directories : (p : Names) → keeps p ≡ true → IsDir t p → find path_cmp (place turn p) added ≡ None
+  pub directories : (p : Names) → keeps p ≡ true → IsDir t p → find path_cmp (place route p) added ≡ None
   pub as_before : (p : Names) (mode : ℕ) → IsDirNode (Some (shown p (Dir mode)))
   -- a file stays one, of the same bytes, and its new mode is that of its number
   pub files : (p : Names) (node : Node) (number : ℕ) (bytes : List ℕ) (mode : ℕ) → shown p node ≡ File number bytes mode
       → (m : ℕ) × (node ≡ File number bytes m) × (mode ≡ named number m)
   -- above a path to which something is sent stands a directory that is added, or one that keeps its place
-  pub above_sent : (p w u : Names) → Stayed keeps t p → turn p ≡ Sent w → IsAbove u w
-      → IsDirNode (find path_cmp u added) ⊎ (Stayed keeps t u × IsDir t u × (place turn u ≡ u))
+  pub above_sent : (p w u : Names) → Stayed keeps t p → route p ≡ Sent w → IsAbove u w
+      → IsDirNode (find path_cmp u added) ⊎ (Stayed keeps t u × IsDir t u × (place route u ≡ u))
   -- and above what is added one that is added, or one that goes there
   pub above_added : (q : Names) (n : List ℕ) → IsTrue (is_some (find path_cmp (q ++ n ∷ []) added))
-      → IsDirNode (find path_cmp q added) ⊎ ((p : Names) × Stayed keeps t p × IsDir t p × (place turn p ≡ q))
+      → IsDirNode (find path_cmp q added) ⊎ ((p : Names) × Stayed keeps t p × IsDir t p × (place route p ≡ q))
   -- files of one number are alike where one is added and the other is, too, or was there
   pub added_alike : (q : Names) (number : ℕ) (b c : List ℕ) (m k : ℕ) → find path_cmp q added ≡ Some (File number b m)
       → ((r : Names) → find path_cmp r added ≡ Some (File number c k) → (b ≡ c) × (m ≡ k))
@@ -54,35 +54,35 @@ pub record IsHeldUp (added : Entries) (keeps : Names → Bool) (turn : Names →
   pub shown_lawful : (p : Names) (node : Node) → IsLawful node → IsLawful (shown p node)
   pub added_lawful : (q : Names) (node : Node) → find path_cmp q added ≡ Some node → IsLawful node
 
-module _ (added : Entries) (keeps : Names → Bool) (turn : Names → Turn) (shown : Names → Node → Node) (named : ℕ → ℕ → ℕ) (t new : FileTree)
-    (tree : IsTree t) (apart : IsApart (Stayed keeps t) turn) (up : IsHeldUp added keeps turn shown named t) (is : IsPlaced added keeps (place turn) shown t new) where
+module _ (added : Entries) (keeps : Names → Bool) (route : Names → Route) (shown : Names → Node → Node) (named : ℕ → ℕ → ℕ) (t new : FileTree)
+    (tree : IsTree t) (apart : IsApart (Stayed keeps t) route) (up : IsHeldUp added keeps route shown named t) (is : IsPlaced added keeps (place route) shown t new) where
   -- a directory that stays is one at its place
-  dir_at : (p : Names) → Stayed keeps t p → IsDir t p → IsDir new (place turn p)
+  dir_at : (p : Names) → Stayed keeps t p → IsDir t p → IsDir new (place route p)
   dir_at p stayed dir =
       let d = some_dir (get t p) dir in
       subst IsDirNode (sym (is.stay p (Dir d.0) stayed.kept d.1 (up.directories p stayed.kept dir))) (up.as_before p d.0)
 
-  dir_there : (u q : Names) → Stayed keeps t u → IsDir t u → place turn u ≡ q → IsDir new q
+  dir_there : (u q : Names) → Stayed keeps t u → IsDir t u → place route u ≡ q → IsDir new q
   dir_there u q stayed dir at = subst (λ (l : Names). IsDir new l) at (dir_at u stayed dir)
 
   dir_added : (q : Names) → IsDirNode (find path_cmp q added) → IsDir new q
   dir_added q dir = let d = some_dir (find path_cmp q added) dir in subst IsDirNode (sym (is.added_stand q (Dir d.0) d.1)) refl
 
-  above : (q : Names) (n : List ℕ) (node : Node) → Came keeps (place turn) shown t (q ++ n ∷ []) node → IsDir new q
-  above q n node came = by_last (λ p. Stayed keeps t p → place turn p ≡ q ++ n ∷ [] → IsDir new q)
+  above : (q : Names) (n : List ℕ) (node : Node) → Came keeps (place route) shown t (q ++ n ∷ []) node → IsDir new q
+  above q n node came = by_last (λ p. Stayed keeps t p → place route p ≡ q ++ n ∷ [] → IsDir new q)
       (λ stayed at. absurd (push_not_root q n (sym at)))
-      (λ p m before stayed at. go p m stayed (view (turn (p ++ m ∷ [])) m) (sym (place-push turn p m) ∙ at))
+      (λ p m before stayed at. go p m stayed (view (route (p ++ m ∷ [])) m) (sym (place-push route p m) ∙ at))
       came.path (record { kept = came.kept; stands = ap is_some came.stood }) came.here
     where
-      go : (p : Names) (m : List ℕ) → Stayed keeps t (p ++ m ∷ []) → View (turn (p ++ m ∷ [])) m → turned (turn (p ++ m ∷ [])) (place turn p) m ≡ q ++ n ∷ [] → IsDir new q
+      go : (p : Names) (m : List ℕ) → Stayed keeps t (p ++ m ∷ []) → View (route (p ++ m ∷ [])) m → routed (route (p ++ m ∷ [])) (place route p) m ≡ q ++ n ∷ [] → IsDir new q
       go p m stayed (sent w away) at =
-          let w_is : w ≡ q ++ n ∷ [] = sym (turned-sent turn (p ++ m ∷ []) (place turn p) m w away) ∙ at in
+          let w_is : w ≡ q ++ n ∷ [] = sym (routed-sent route (p ++ m ∷ []) (place route p) m w away) ∙ at in
           elim (up.above_sent (p ++ m ∷ []) w q stayed away (n, [], w_is)) [
             | inl dir ↦ dir_added q dir
             | inr (stayed_q, dir, at_q) ↦ dir_there q q stayed_q dir at_q
           ]
       go p m stayed (near k near_by) at =
-          let at_q : place turn p ≡ q = (same_from_push (place turn p) q k n (sym (near_by (place turn p)) ∙ at)).0 in
+          let at_q : place route p ≡ q = (same_from_push (place route p) q k n (sym (near_by (place route p)) ∙ at)).0 in
           dir_there p q (apart.up p m stayed) (tree.parents p m stayed.stands) at_q
 
   -- what is a file there was one before, or was added

@@ -4,9 +4,9 @@ use Rattle.std.specs.Prelude.{Contains}
 use Rattle.std.proofs.lemmas.Bool.{and_parts, not-true}
 use Rattle.dired_text.specs.Paths.{Names}
 use Rattle.tree_core.specs.FileTree.{FileTree, Stands}
-use Rattle.edit_check.specs.declared.row.Row.{Row}
-use Rattle.edit_check.specs.Rows.{is_at, is_source, is_written, is_victim}
-use Rattle.edit_check.specs.WellFormed.{IsVictimOf}
+use Rattle.edit_words.specs.declared.row.Row.{Row}
+use Rattle.edit_words.specs.Rows.{is_at, is_source, is_written, is_victim}
+use Rattle.edit_words.specs.WellFormed.{IsVictimOf}
 use Rattle.edit_laws.proofs.ListLemmas.{any_parts}
 use Rattle.edit_laws.proofs.RowLemmas.{is_at-true, is_written-from}
 

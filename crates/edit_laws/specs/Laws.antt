@@ -7,17 +7,17 @@ use Rattle.tree_core.specs.declared.node.Node.{Node}
 use Rattle.tree_core.specs.declared.node.Node.TheVariants.{Dir}
 use Rattle.tree_core.specs.declared.changes.Changes.{Changes}
 use Rattle.tree_core.specs.FileTree.{FileTree, IsTree, IsFile}
-use Rattle.edit_check.specs.declared.row.Row.{Row}
-use Rattle.edit_check.specs.Place.{place}
-use Rattle.edit_check.specs.Rows.{rows, is_at, is_kept, turn_of}
-use Rattle.edit_check.specs.WellFormed.{IsWellFormed, CanBeAsked}
-use Rattle.edit_check.specs.Edited.{Came, AreMadeFor, fresh_places, missing, with_new_mode, edited, IsEdited, StaysPath}
+use Rattle.edit_words.specs.declared.row.Row.{Row}
+use Rattle.edit_words.specs.Place.{place}
+use Rattle.edit_words.specs.Rows.{rows, is_at, is_kept, route_of}
+use Rattle.edit_words.specs.WellFormed.{IsWellFormed, CanBeAsked}
+use Rattle.edit_words.specs.Edited.{Came, AreMadeFor, fresh_places, missing, with_new_mode, edited, IsEdited, StaysPath}
 
 -- Two paths that stay have one new place only where they are one path.
 abbrev pub PlacesAreApart : Type 0
 PlacesAreApart =
     (t : FileTree) (changes : Changes) → IsTree t → CanBeAsked (IsFile t) changes → IsWellFormed t (rows changes)
-    → (p q : Names) → StaysPath t (rows changes) p → StaysPath t (rows changes) q → place (turn_of (rows changes)) p ≡ place (turn_of (rows changes)) q → p ≡ q
+    → (p q : Names) → StaysPath t (rows changes) p → StaysPath t (rows changes) q → place (route_of (rows changes)) p ≡ place (route_of (rows changes)) q → p ≡ q
 
 -- The edited tree as a function is one as a relation, whatever entries are made,
 abbrev pub EditedIsEdited : Type 0
@@ -40,14 +40,14 @@ goes rs p = is_kept rs p && not (is_retargeted rs p)
 -- What stands in a tree after the changes.
 pub record StandsAsEdited (t : FileTree) (rs : List Row) (made : List Node) (new : FileTree) : Type 0 where
   -- each entry that goes, at its path's new place, with its new mode
-  pub went : (p : Names) (node : Node) → goes rs p ≡ true → get t p ≡ Some node → get new (place (turn_of rs) p) ≡ Some (with_new_mode t rs p node)
+  pub went : (p : Names) (node : Node) → goes rs p ≡ true → get t p ≡ Some node → get new (place (route_of rs) p) ≡ Some (with_new_mode t rs p node)
   -- the entries that are made, one by one at their places
   pub made_stand : AllZip (λ (q : Names) (node : Node). get new q ≡ Some node) (fresh_places rs) made
   -- the missing directories
   pub missing_stand : (q : Names) → Contains (missing t rs) q → get new q ≡ Some (Dir 0o755)
   -- and nothing else
   pub only : (q : Names) (node : Node) → get new q ≡ Some node
-      → Came (goes rs) (place (turn_of rs)) (with_new_mode t rs) t q node ⊎ (Contains (zip (fresh_places rs) made) (q, node) ⊎ (Contains (missing t rs) q × (node ≡ Dir 0o755)))
+      → Came (goes rs) (place (route_of rs)) (with_new_mode t rs) t q node ⊎ (Contains (zip (fresh_places rs) made) (q, node) ⊎ (Contains (missing t rs) q × (node ≡ Dir 0o755)))
 
 abbrev pub PathsGoToTheirPlaces : Type 0
 PathsGoToTheirPlaces =

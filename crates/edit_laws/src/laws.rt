@@ -11,6 +11,7 @@ ghost use Rattle.edit_laws.specs.Lines.{
   LinesAreCarriedOut,
   NonePasses,
   OthersKeepTheirModes,
+  PlacesByCases,
   VictimsAreReplaced,
 };
 
@@ -45,6 +46,12 @@ pub fn edited_tree_is_a_tree()
 pub fn lines_are_carried_out()
     ensures carried_out { LinesAreCarriedOut }
     ensures other_modes { OthersKeepTheirModes }
+{}
+
+/// The new place of a path: the root stays; what an edit names anew in its directory goes with the directory under the new name; what
+/// an edit sends elsewhere goes to the path that it writes; every other path goes with its directory under its own name.
+pub fn new_places_by_cases()
+    ensures { PlacesByCases }
 {}
 
 /// What stands at a victim's path is what the new path of a line replaces, and the other way round.

@@ -25,8 +25,8 @@ use Rattle.wdired_buffer.specs.declared.typed.Typed.{Typed}
 use Rattle.wdired_buffer.specs.EntryLaws.{AllOk}
 use Rattle.wdired_buffer.specs.Headers.{named}
 use Rattle.wdired_buffer.specs.Edits.{or_faulty, same_path, texts_in, path_typed, kept, mode_typed, target_typed, typed_of, changed, if_any, if_emptied, asked_of, nothing, same_fixed, line_asks}
-use Rattle.edit_check.specs.Rows.{edit_row}
-use Rattle.edit_check.specs.WellFormed.{IsEdit, IsNoRoot}
+use Rattle.edit_words.specs.Rows.{edit_row}
+use Rattle.edit_words.specs.WellFormed.{IsEdit, IsNoRoot}
 use Rattle.edit_requests.proofs.ReadLemmas.{named_some, target_lawful}
 use Rattle.edit_requests.proofs.LineLemmas.{then_all, all_at, HasSource}
 
@@ -133,12 +133,6 @@ same_self path = (slice_eq-Decides bytes_eq-Decides path path (same_path path pa
 pub test_false : (b : Bool) → b ≡ false → b ≡ true → ⊥
 test_false b no' yes' = let both : true ≡ false = sym yes' ∙ no' in cc
 
-any_of : (a b c : Bool) → (a || b || c) ≡ true → IsTrue a ⊎ (IsTrue b ⊎ IsTrue c)
-any_of true b c is = inl refl
-any_of false true c is = inr (inl refl)
-any_of false false true is = inr (inr refl)
-any_of false false false is = cc
-
 -- the edit of an entry's line, before it is known whether it asks for anything
 abbrev edit_of : ℕ → Names → Shown → Typed → Edit
 edit_of number source was typed = record {
@@ -153,7 +147,7 @@ edit_of number source was typed = record {
 -- where it does, it is lawful
 typed_edit : (number : ℕ) (source : Names) (was : Shown) (typed : Typed) → IsTyped was typed → (is_some (edit_of number source was typed).to || is_some (edit_of number source was typed).target || is_some (edit_of number source was typed).mode) ≡ true → IsEdit (edit_of number source was typed)
 typed_edit number source was typed is asks = record {
-  asks = any_of (is_some (edit_of number source was typed).to) (is_some (edit_of number source was typed).target) (is_some (edit_of number source was typed).mode) asks;
+  asks = asks;
   to = λ same. test_false (same_path source source) (changed_some same_path source typed.path source same).1 (same_self source);
   target = λ target here.
       let parts = changed_some bytes_eq was.target typed.target target here in

@@ -20,9 +20,9 @@ use Rattle.wdired_buffer.specs.Edits.{same_path, line_asks, shows, is_twice, onc
 use Rattle.wdired_buffer.specs.Lines.{lines}
 use Rattle.wdired_buffer.specs.Buffer.{buffer_of}
 use Rattle.wdired_buffer.proofs.EditLemmas.{shows-push}
-use Rattle.edit_check.specs.declared.row.Row.{Row}
-use Rattle.edit_check.specs.Rows.{edit_row}
-use Rattle.edit_check.specs.WellFormed.{IsEdit, IsNoRoot, HasOtherSource, LinesRise, SourcesDiffer}
+use Rattle.edit_words.specs.declared.row.Row.{Row}
+use Rattle.edit_words.specs.Rows.{edit_row}
+use Rattle.edit_words.specs.WellFormed.{IsEdit, IsNoRoot, HasOtherSource, LinesRise, SourcesDiffer}
 use Rattle.edit_requests.specs.RequestLaws.{EditsCanBeAsked, EmptiedAreOfLines, IsOfLine}
 use Rattle.edit_requests.proofs.LineLemmas.{then_all, all_at, HasSource, sources_some}
 use Rattle.edit_requests.proofs.AskedLemmas.{IsOfNumber, IsSourceOf, IsAskedOf, same_self, test_false, line_asked}

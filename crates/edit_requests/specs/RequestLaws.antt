@@ -7,7 +7,7 @@ use Rattle.wdired_buffer.specs.declared.line.BufferLine.{BufferLine}
 use Rattle.wdired_buffer.specs.declared.line.BufferLine.TheVariants.{Entry}
 use Rattle.wdired_buffer.specs.Buffer.{buffer_of}
 use Rattle.wdired_buffer.specs.Edits.{Asks, edits_of}
-use Rattle.edit_check.specs.WellFormed.{AreAsked, max_changes}
+use Rattle.edit_words.specs.WellFormed.{AreAsked, max_changes}
 
 -- the edits that an edited text of a buffer's lines asks for, where they aren't too many
 abbrev pub EditsCanBeAsked : Type 0

@@ -23,7 +23,7 @@ pub enum BufferCause {
 pub enum BufferFault {
     /// The first bad line, or the one behind the last where lines are missing.
     Bad { line: u32, cause: BufferCause },
-    /// There are so many lines, and more than 200,000.
+    /// There are so many lines, and more than 400,000.
     TooManyLines(u64),
     /// An allocation was refused.
     Memory,

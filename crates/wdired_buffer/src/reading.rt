@@ -26,7 +26,7 @@ const MAX_LINES: usize = 400_000;
 /// is its header, its total, and a line for each file. A newline may be missing behind the last line.
 ///
 /// # Errors
-/// `TooManyLines` where there are more than 200,000 lines, before all else. Otherwise `Bad` with the first line that
+/// `TooManyLines` where there are more than 400,000 lines, before all else. Otherwise `Bad` with the first line that
 /// isn't of the form, which is the one behind the last where the text ends too early.
 pub fn read_buffer(alloc: Global, bytes: &[u8]) -> Result<Vec<BufferLine>, BufferFault>
     requires { length bytes.now < 4294967295 }

@@ -3,7 +3,7 @@ use Rattle.tree_core.specs.declared.changes.Changes.TheVariants.{Edits}
 use Rattle.tree_core.specs.declared.edit.Edit.{Edit}
 use Rattle.wdired_buffer.specs.declared.line.BufferLine.{BufferLine}
 use Rattle.wdired_buffer.specs.Edits.{edits_of, asks_in}
-use Rattle.edit_check.specs.WellFormed.{AreAsked, max_changes}
+use Rattle.edit_words.specs.WellFormed.{AreAsked, max_changes}
 use Rattle.edit_requests.proofs.RequestLemmas.{can_be_asked}
 use Rattle.dired_cli.proofs.requests.compare.Goals as goal
 

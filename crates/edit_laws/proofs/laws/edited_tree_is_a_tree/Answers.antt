@@ -1,4 +1,4 @@
-use Rattle.edit_check.specs.Rows.{rows}
+use Rattle.edit_words.specs.Rows.{rows}
 use Rattle.edit_laws.proofs.AskedLemmas.{rows_are, made_are}
 use Rattle.edit_laws.proofs.EditedLemmas.{edited_is_tree}
 use Rattle.edit_laws.proofs.laws.edited_tree_is_a_tree.Goals as goal

@@ -1,5 +1,5 @@
-use Rattle.edit_check.specs.Rows.{rows}
-use Rattle.edit_check.specs.Edited.{edited}
+use Rattle.edit_words.specs.Rows.{rows}
+use Rattle.edit_words.specs.Edited.{edited}
 use Rattle.edit_laws.proofs.AskedLemmas.{rows_are, made_are}
 use Rattle.edit_laws.proofs.EditedLemmas.{edited-IsEdited, stands_as_edited}
 use Rattle.edit_laws.proofs.laws.paths_go_to_their_places.Goals as goal

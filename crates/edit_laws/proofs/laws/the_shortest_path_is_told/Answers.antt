@@ -1,4 +1,4 @@
-use Rattle.edit_laws.proofs.FrontLemmas.{first_is_shortest, none_passes}
+use Rattle.edit_laws.proofs.ShortestLemmas.{first_is_shortest, none_passes}
 use Rattle.edit_laws.proofs.laws.the_shortest_path_is_told.Goals as goal
 
 pub returns-clause-first : goal.returns-clause-first

@@ -1,8 +1,0 @@
-use Rattle.std.proofs.Common.{◌≡◌, count_by, is_some, take}
-use Rattle.edit_check.specs.declared.row.Row.{Row}
-use Rattle.edit_check.specs.Found.{sight_in}
-use Rattle.edit_check.specs.Refusals.{victim_of}
-use Rattle.edit_check.proofs.counting.replaced.Given as goal
-
-abbrev pub invariant-loop-row : goal.invariant-loop-row
-invariant-loop-row l = l.count ≡ count_by (λ (r : Row). is_some (victim_of (sight_in l.findings) l.table.rows.items r)) (take l.row-index l.table.rows.items)

@@ -1,5 +1,0 @@
-use Rattle.edit_check.proofs.WellFormedLemmas.{taken_alone}
-use Rattle.edit_check.proofs.laws.taken_where_nothing_is_refused.Goals as goal
-
-pub returns : goal.returns
-returns c = taken_alone

@@ -1,6 +1,0 @@
-use Rattle.std.proofs.Common.{◌≡◌, map, take}
-use Rattle.edit_check.specs.Rows.{removal_row}
-use Rattle.edit_check.proofs.row.removal_rows.Given as goal
-
-abbrev pub invariant-loop-removal : goal.invariant-loop-removal
-invariant-loop-removal l = l.rows.items ≡ map removal_row (take l.removal-index l.removals)

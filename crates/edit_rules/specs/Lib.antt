@@ -1,0 +1,4 @@
+pub mod Claims
+pub mod PathSets
+pub mod Tables
+pub mod Plans

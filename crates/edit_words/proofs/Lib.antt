@@ -1,0 +1,9 @@
+pub mod AncestorLemmas
+pub mod SameLemmas
+pub mod FindLemmas
+pub mod AboveLemmas
+pub mod RefusalLemmas
+pub mod WellFormedLemmas
+pub mod FirstLemmas
+pub mod AlikeLemmas
+pub mod FindingsLemmas

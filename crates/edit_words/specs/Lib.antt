@@ -1,0 +1,9 @@
+pub mod Place
+pub mod Rows
+pub mod Sight
+pub mod Refusals
+pub mod WellFormed
+pub mod Edited
+pub mod Counting
+pub mod Found
+pub mod Laws
