@@ -117,11 +117,7 @@ fn see_here<T: Tree>(
 }
 
 /// Looks whether a directory that was found is empty, where that wasn't done before.
-pub fn see_empty<T: Tree>(
-    tree: &mut T,
-    findings: &mut Findings,
-    path: &Path,
-) -> Result<(), SeeEnd>
+pub fn see_empty<T: Tree>(tree: &mut T, findings: &mut Findings, path: &Path) -> Result<(), SeeEnd>
     requires told { T.Tells → HasFindings findings.old (sight_of (current_tree (T.history tree.old))) }
     ensures asked { OnOk result (is_dir_of ((sight_in findings.new).at path.now) ≡ true → IsTrue (is_some (get path_cmp findings.new.empty path.now))) }
     ensures grown { HasGrown findings.old findings.new }

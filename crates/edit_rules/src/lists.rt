@@ -33,7 +33,11 @@ pub fn victims_by_line(
 }
 
 /// The directories that have to be made, each once, in the order of their paths.
-pub fn missing_by_path(alloc: Global, table: &Table, findings: &Findings) -> Result<Vec<Path>, Memory>
+pub fn missing_by_path(
+    alloc: Global,
+    table: &Table,
+    findings: &Findings,
+) -> Result<Vec<Path>, Memory>
     ensures { IfOk result (λ v. AreMissing (sight_in findings.now) table.now.rows.items v.items) }
 {
     let mut missing = all_missing(alloc, &table.rows, findings)?;

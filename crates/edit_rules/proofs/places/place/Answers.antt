@@ -21,8 +21,8 @@ loop-at-preserved c =
     let old_is : old ≡ take (c.loop-at.at + 1) path = search rules in
     let got : c.in_ok-to.to.items ≡ routed (unwrap_or (get path_cmp c.args.table.now.routes old) Stays) to name = search rules in
     let next : c.in_ok-to.to.items ≡ routed (route_of rows (take (c.loop-at.at + 1) path)) to name =
-        got
-        ∙ ap (λ (o : Option Route). routed (unwrap_or o Stays) to name) (c.requires.routes old)
-        ∙ ap (λ (r : Route). routed r to name) (route_noted old (row_from rows old))
-        ∙ ap (λ (p : Names). routed (route_of rows p) to name) old_is in
+    got
+    ∙ ap (λ (o : Option Route). routed (unwrap_or o Stays) to name) (c.requires.routes old)
+    ∙ ap (λ (r : Route). routed r to name) (route_noted old (row_from rows old))
+    ∙ ap (λ (p : Names). routed (route_of rows p) to name) old_is in
     placed_next (route_of rows) path to c.in_ok-to.to.items c.loop-at.at name below name_is next c.loop-at.invariant
