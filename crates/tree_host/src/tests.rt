@@ -1,5 +1,5 @@
 use super::*;
-use dired_text::{Name, Path, Shelf, ShelfEnd, Sink, resolve};
+use dired_text::{Name, NameError, Path, Shelf, ShelfEnd, Sink, resolve};
 use std::alloc::Global;
 use std::fs::{self, Permissions};
 use std::os::unix::fs::{PermissionsExt, symlink};
@@ -7,8 +7,8 @@ use std::test::Fail;
 use tree_core::{Kind, LookEnd, ReadEnd, Tree};
 
 // The path that a text names from the root.
-fn path(alloc: Global, text: &str) -> Result<Path, Fail> {
-    Ok(resolve(alloc, &Path::root(alloc), text)?)
+fn path(alloc: Global, text: &str) -> Result<Path, NameError> {
+    resolve(alloc, &Path::root(alloc), text)
 }
 
 // Whether these are the names.
