@@ -21,6 +21,7 @@ bench: $(PROGRAM)
 	bash bench/listing.sh $(PROGRAM)
 	bash bench/edits.sh $(PROGRAM)
 	bash bench/check.sh $(PROGRAM)
+	bash bench/sync.sh
 
 # `rt run` proves, builds and runs; without words the program ends with status 1, so what counts is that it was built.
 $(PROGRAM): crates.txt $(wildcard crates/*/src/*.rt crates/*/specs/*.antt crates/*/proofs/*.antt)

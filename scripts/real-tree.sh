@@ -6,10 +6,11 @@ set -u
 export LC_ALL=C
 top=$(dirname "$(readlink -f "$0")")/..
 built=$(readlink -f "${1:-$top/crates/tree_calls/out/tree_calls}")
-dired=$(readlink -f "${2:-$top/crates/dired_cli/out/dired_cli}")
+dired=${2:-$top/crates/dired_cli/out/dired_cli}
 [ -x "$built" ] || { echo "real-tree: skipped, no program at $built"; exit 0; }
 work=$(mktemp -d)
 other=
+away=
 trap 'chmod -R u+rwx "$work"; rm -rf "$work" $other' EXIT
 # Where this runs as root, calls are also made as another user, who must reach the program and the folder.
 chmod 755 "$work"
@@ -43,8 +44,8 @@ fresh() {
 calls() {
     local got
     cat > "$work/lines"
-    sed 's/ => .*//' "$work/lines" > "$work/in"
-    sed 's/ => /: /' "$work/lines" > "$work/wanted"
+    sed 's/ =>.*//' "$work/lines" > "$work/in"
+    sed 's/ => */: /; s/: $/:/' "$work/lines" > "$work/wanted"
     (umask "$mask"; exec $by "$program" < "$work/in" > "$work/printed" 2> "$work/errors"); got=$?
     if [ "$got" != 0 ] || ! cmp -s "$work/printed" "$work/wanted" || [ -s "$work/errors" ]; then
         fail "$1: status $got; wanted and printed:"
@@ -232,6 +233,19 @@ mode foreign => 644
 sync => done
 L
     else skip root "another user's files"; fi
+    # A working directory that can't be read is no tree.
+    for mode in 300 0; do
+        fresh; : > f; chmod "$mode" "$tree"
+        $by "$program" < /dev/null > "$work/printed" 2> "$work/errors"; got=$?
+        [ "$got" = 40 ] || fail "a working directory of mode $mode: status $got"
+        chmod 755 "$tree"
+    done
+    # Where no program can be started, the first sync fails, and each later one does: the first may have told of a lost write.
+    fresh
+    printf 'make_dir d 755\nsync\nmake_dir d/e 755\nrename d f\nsync\nkind f/e\n' > "$work/in"
+    (ulimit -u 0 && exec $by "$program" < "$work/in" > "$work/printed" 2> "$work/errors")
+    [ "$(sed 's/.*: //' "$work/printed" | paste -sd' ')" = 'done failed done done failed directory' ] ||
+        { fail 'a sync that failed'; cat "$work/printed" "$work/errors"; }
     # The set-group bit is taken away where the group is another one: the call fails, and the old mode stands.
     fresh; printf text > f; mkdir d; chmod 640 f; chmod 750 d
     if [ "$(id -u)" = 0 ] && chown 65534:0 f d; then
@@ -372,7 +386,7 @@ sync => done
 L
     printf 'meta %s\n' "$away/e/g" "$away/l" "$away/e" "$away/e/g" "${program#/}" > "$work/in"
     "$program" < "$work/in" | sed 's/.*: //' | awk '{ print $7 }' > "$work/printed"
-    awk 'NR <= 4 { if (length($1) != 19 || $1 < "9223372036854775808") exit 1; seen[NR] = $1 }
+    awk 'NR <= 4 { if (length($1) != 19 || $1 < "9223372036854775808") exit 1; seen[NR] = $1 "" }
         END { if (seen[1] != seen[4] || seen[1] == seen[2] || seen[2] == seen[3] || seen[1] == seen[3]) exit 1 }' "$work/printed" ||
         { fail 'numbers of files on another device'; cat "$work/printed"; }
     [ "$(sed -n 5p "$work/printed")" = "$(stat -c %i "$program")" ] || [ "$(stat -c %d "$program")" != "$(stat -c %d /)" ] || fail 'the number of a file on the root'
@@ -454,6 +468,21 @@ L
         else skip 'trace of another user' 'a sync of a directory that may not be read'; fi
     else skip 'file system that is known' 'the syncs of directories'; fi
     chmod 755 "$work"; rm -f "$work/trace"
+    # What was touched on another device is synced there, and where all was touched, its whole file system too.
+    if [ -n "$away" ] && [ "$(stat -f -c %T /)" = ext2/ext3 ] && [ "$(stat -f -c %T "$there")" = tmpfs ]; then
+        mkdir -p "/$away/x"; : > "/$away/a"
+        cd / || exit 1
+        traced 'a rename on another device' <<L
+kind $away/a
+sync
+rename $away/a $away/x/b
+sync
+L
+        cd "$work" || exit 1
+        grep -q "execve(.*\"sync\", \"-f\", \"./${there##*/}\"" "$work/trace" || fail 'the first sync leaves another file system out'
+        [ "$(counted 'fsync(' "$work/behind")" = 2 ] && [ "$(counted 'execve(.*"sync"' "$work/behind")" = 0 ] && grep -q "fsync([0-9]*</$away/x>" "$work/behind" ||
+            { fail 'a rename on another device'; cat "$work/behind"; }
+    else skip 'known device of its own' 'a sync on another device'; fi
     # One look of the host for each entry of a directory that was just looked at.
     fresh; mkdir -p a/b/c; for i in $(seq 100); do : > "a/b/c/$i"; done
     for i in $(seq 100); do echo "kind a/b/c/$i"; done | strace -qq -o "$work/trace" -e trace=statx,newfstatat,lstat "$program" > "$work/printed"

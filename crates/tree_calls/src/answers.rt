@@ -22,8 +22,8 @@ pub enum Answer {
 
 impl Answer {
     /// That of a changing call.
-    pub fn of_change(result: Result<(), Failed>) -> Self {
-        match result {
+    pub fn of_change(answer: Result<(), Failed>) -> Self {
+        match answer {
             Ok(()) => Answer::Done,
             Err(_) => Answer::Failed,
         }

@@ -6,6 +6,7 @@ use tree_core::Tree;
 use tree_host::HostTree;
 
 // The words of a line. Those that aren't there are empty.
+#[derive(Clone, Copy)]
 struct Words<'a> {
     call: &'a str,
     first: &'a str,
@@ -29,7 +30,9 @@ pub fn make(alloc: Global, tree: &mut HostTree<HostRuntime>, line: &str) -> Answ
         return Answer::NotMade;
     };
     match words.call {
-        "kind" | "mode" | "is_empty" | "meta" | "names" | "read" => look(alloc, tree, &words, &path),
+        "kind" | "mode" | "is_empty" | "meta" | "names" | "read" => look(
+            alloc, tree, &words, &path,
+        ),
         "make_link" => Answer::of_change(tree.make_link(&path, words.second)),
         "remove" => Answer::of_change(tree.remove(&path)),
         "remove_dir" => Answer::of_change(tree.remove_dir(&path)),
@@ -39,12 +42,7 @@ pub fn make(alloc: Global, tree: &mut HostTree<HostRuntime>, line: &str) -> Answ
 }
 
 // The looks.
-fn look(
-    alloc: Global,
-    tree: &mut HostTree<HostRuntime>,
-    words: &Words<'_>,
-    path: &Path,
-) -> Answer {
+fn look(alloc: Global, tree: &mut HostTree<HostRuntime>, words: &Words<'_>, path: &Path) -> Answer {
     match words.call {
         "kind" => match tree.kind(path) {
             Ok(kind) => Answer::Kind(kind),
@@ -77,12 +75,7 @@ fn look(
 }
 
 // The changing calls with two paths.
-fn join(
-    alloc: Global,
-    tree: &mut HostTree<HostRuntime>,
-    words: &Words<'_>,
-    path: &Path,
-) -> Answer {
+fn join(alloc: Global, tree: &mut HostTree<HostRuntime>, words: &Words<'_>, path: &Path) -> Answer {
     let Ok(other) = path_of(alloc, words.second) else {
         return Answer::NotMade;
     };

@@ -1,5 +1,5 @@
 use super::*;
-use dired_text::{Name, Path, Shelf, ShelfEnd, Sink, resolve};
+use dired_text::{Name, NameError, Path, Shelf, ShelfEnd, Sink, resolve};
 use std::alloc::Global;
 use std::fs::{self, Permissions};
 use std::os::unix::fs::{PermissionsExt, symlink};
@@ -7,8 +7,8 @@ use std::test::Fail;
 use tree_core::{Kind, LookEnd, ReadEnd, Tree};
 
 // The path that a text names from the root.
-fn path(alloc: Global, text: &str) -> Result<Path, Fail> {
-    Ok(resolve(alloc, &Path::root(alloc), text)?)
+fn path(alloc: Global, text: &str) -> Result<Path, NameError> {
+    resolve(alloc, &Path::root(alloc), text)
 }
 
 // Whether these are the names.
@@ -137,7 +137,10 @@ fn directories_are_made(rt: HostRuntime) -> Result<(), Fail> {
         ("dirs/v", 0o10000, false),
     ] {
         assert_eq!(rt; makes_dir(alloc, &mut tree, text, mode), made, "{text}");
-        assert!(rt; !made || mode_at(alloc, &mut tree, text) == Some(mode), "{text}");
+        assert!(rt;
+            !made || mode_at(alloc, &mut tree, text) == Some(mode),
+            "{text}"
+        );
     }
     Ok(())
 }
@@ -216,7 +219,10 @@ fn files_are_written(rt: HostRuntime) -> Result<(), Fail> {
         ("written/x", 0o10000, false),
     ] {
         assert_eq!(rt; writes_file(alloc, &mut tree, text, mode), made, "{text}");
-        assert!(rt; !made || mode_at(alloc, &mut tree, text) == Some(mode), "{text}");
+        assert!(rt;
+            !made || mode_at(alloc, &mut tree, text) == Some(mode),
+            "{text}"
+        );
     }
     Ok(())
 }
@@ -226,14 +232,20 @@ fn a_file_is_read_within_the_limit(rt: HostRuntime) -> Result<(), Fail> {
     make_folder(rt, "read")?;
     let alloc = rt.alloc();
     let mut tree = HostTree::open(rt)?;
-    assert_eq!(rt; tree.read(alloc, &path(alloc, "read/d/b")?, 5)?.as_slice(), b"hello".as_slice());
+    assert_eq!(rt;
+        tree.read(alloc, &path(alloc, "read/d/b")?, 5)?.as_slice(),
+        b"hello".as_slice()
+    );
     for (text, limit, want) in [
         ("read/d/b", 4, ReadEnd::TooLarge),
         ("read/l/b", 9, ReadEnd::Failed),
         ("read/l", 9, ReadEnd::Failed),
         ("read/x", 9, ReadEnd::Failed),
     ] {
-        assert_eq!(rt; tree.read(alloc, &path(alloc, text)?, limit).err(), Some(want));
+        assert_eq!(rt;
+            tree.read(alloc, &path(alloc, text)?, limit).err(),
+            Some(want)
+        );
     }
     Ok(())
 }
@@ -259,7 +271,10 @@ fn modes_are_set(rt: HostRuntime) -> Result<(), Fail> {
         ("modes/x", 0o755, false),
     ] {
         assert_eq!(rt; sets_mode(alloc, &mut tree, text, mode), set, "{text}");
-        assert!(rt; !set || mode_at(alloc, &mut tree, text) == Some(mode), "{text}");
+        assert!(rt;
+            !set || mode_at(alloc, &mut tree, text) == Some(mode),
+            "{text}"
+        );
     }
     Ok(())
 }
