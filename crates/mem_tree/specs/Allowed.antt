@@ -7,10 +7,13 @@ use Rattle.tree_core.specs.declared.node.Node.{Node}
 use Rattle.tree_core.specs.declared.node.Node.TheVariants.{Dir, Link, File}
 use Rattle.tree_core.specs.declared.node.Change.{Change}
 use Rattle.tree_core.specs.declared.node.Change.TheVariants.{MakeDir, MakeLink, MakeHard, WriteFile, Rename, SetMode, Remove, RemoveDir, Sync}
-use Rattle.mem_tree.specs.declared.apply.Attempt.{Attempt}
+use Rattle.std.specs.FinMap.{code}
+use Rattle.dired_text.specs.Paths.{Names, path_cmp}
+use Rattle.mem_tree.specs.declared.attempt.Attempt.{Attempt}
 use Rattle.tree_core.specs.FileTree.{FileTree, CanDo, IsLawful}
-use Rattle.tree_core.specs.History.{History, IsSound, current_tree}
-use Rattle.mem_tree.specs.Mem.{CouldDo, history_with}
+use Rattle.tree_core.specs.History.{History, Began, Then, IsSound, AllAllowed, current_tree}
+use Rattle.mem_tree.specs.Records.{Was, AllWere, history_with}
+use Rattle.mem_tree.specs.Times.{Times}
 
 abbrev Parts : Type 0
 Parts = ℕ ⊎ (List ℕ ⊎ (ℕ × (List ℕ × ℕ)))
@@ -41,9 +44,6 @@ IsLawful-prop (Dir mode) = hlevel props
 IsLawful-prop (Link target) = hlevel props
 IsLawful-prop (File number bytes mode) = hlevel props
 
-pub IsSound-prop : (h : History) → IsProp (IsSound h)
-IsSound-prop h = hlevel (props, node_prop, IsLawful-prop)
-
 CanDo-prop : (change : Change) (t : FileTree) → IsProp (CanDo change t)
 CanDo-prop (MakeDir p mode) t = hlevel (props, node_prop)
 CanDo-prop (MakeLink p target) t = hlevel (props, node_prop)
@@ -55,6 +55,22 @@ CanDo-prop (Remove p) t = hlevel (props, node_prop)
 CanDo-prop (RemoveDir p) t = hlevel (props, node_prop)
 CanDo-prop Sync t = Unit-prop
 
-pub CouldDo-prop : (h : History) (attempts : List Attempt) → IsProp (CouldDo h attempts)
-CouldDo-prop h [] = Unit-prop
-CouldDo-prop h (a ∷ left) = ×_prop (λ x y i d. CanDo-prop a.change (current_tree h) (x d) (y d) i) (CouldDo-prop (history_with h a) left)
+AllAllowed-prop : (h : History) → IsProp (AllAllowed h)
+AllAllowed-prop (Began t next) = Unit-prop
+AllAllowed-prop (Then h change) = ×_prop (CanDo-prop change (current_tree h)) (AllAllowed-prop h)
+
+pub IsSound-prop : (h : History) → IsProp (IsSound h)
+IsSound-prop h = hlevel (props, node_prop, IsLawful-prop, AllAllowed-prop)
+
+Was-prop : (h : History) (a : Attempt) → IsProp (Was h a)
+Was-prop h a = hlevel (props, CanDo-prop a.change (current_tree h))
+
+pub AllWere-prop : (h : History) (attempts : List Attempt) → IsProp (AllWere h attempts)
+AllWere-prop h [] = Unit-prop
+AllWere-prop h (a ∷ left) = ×_prop (Was-prop h a) (AllWere-prop (history_with h a) left)
+
+pub FileTree-prop : (a b : FileTree) → IsProp (a ≡ b)
+FileTree-prop a b = Coded-set (code {R = path_cmp} (coded_list (coded_list coded_ℕ)) node_code) a b
+
+pub Times-prop : (a b : Times) → IsProp (a ≡ b)
+Times-prop a b = hlevel props

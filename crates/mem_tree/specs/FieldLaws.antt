@@ -1,34 +1,22 @@
 -- The fields of a tree in memory are those of its entries.
-use Rattle.std.specs.Prelude.{◌≡◌, All, ℕ, zero, suc, ℤ, ◌≤◌, List, [], ◌∷◌, Bool, true, false, cond, Option, Some, None, refl}
-use Rattle.std.proofs.Common.{sym, ◌∙◌, subst, arith}
+use Rattle.std.specs.Prelude.{◌≡◌, All, ℕ, zero, suc, ℤ, ◌≤◌, List, [], ◌∷◌, Option, Some, None, IsTrue, refl}
+use Rattle.std.proofs.Common.{subst, arith}
 use Rattle.std.proofs.lemmas.Option.{same_Some}
-use Rattle.std.specs.Option.{option_map}
-use Rattle.std.specs.Ordering.{eq_by_cmp}
-use Rattle.std.specs.FinMap.{get, find, get-from_entries}
-use Rattle.dired_text.specs.Paths.{Names, path_cmp}
-use Rattle.dired_text.proofs.PathLemmas.{path_cmp-total}
+use Rattle.std.proofs.lemmas.Str.{is_utf8-from_IsUtf8, IsUtf8-nil}
+use Rattle.std.specs.Str.{is_utf8}
+use Rattle.std.specs.FinMap.{get}
+use Rattle.dired_text.specs.Paths.{Names}
 use Rattle.tree_core.specs.declared.node.Node.{Node}
 use Rattle.tree_core.specs.declared.node.Node.TheVariants.{Dir, Link, File}
-use Rattle.mem_tree.specs.declared.rows.Row.{Row}
-use Rattle.tree_core.specs.FileTree.{IsLawful}
-use Rattle.tree_core.specs.History.{History, IsSound, current_tree}
+use Rattle.tree_core.specs.FileTree.{FileTree, IsTree, AreTexts, IsLawful}
 use Rattle.tree_core.specs.Fields.{Shows, IsMeta, IsOwner, AreFields}
-use Rattle.mem_tree.specs.Mem.{pairs, tree_of}
-use Rattle.mem_tree.specs.MemFields.{Listed, listed_rows, meta_of, meta_at, fields_in}
+use Rattle.mem_tree.specs.Times.{Times}
+use Rattle.mem_tree.specs.MemFields.{meta_of, meta_at, fields_of}
 
-node_listed : (b : Bool) (r : Row) (o : Option Node) (l : Option (Node × ℤ)) → o ≡ option_map (λ e. e.0) l → cond b (Some r.node) o ≡ option_map (λ e. e.0) (cond b (Some (r.node, r.mtime)) l)
-node_listed true r o l same = refl
-node_listed false r o l same = same
-
--- what stands at a path is what is listed there
-pub find_listed : (rows : List Row) (q : Names) → find path_cmp q (pairs rows) ≡ option_map (λ e. e.0) (find path_cmp q (listed_rows rows))
-find_listed [] q = refl
-find_listed (r ∷ rows) q = node_listed (eq_by_cmp path_cmp q r.names.items) r _ _ (find_listed rows q)
-
-shows_meta : (listed : Listed) (node : Node) (mtime : ℤ) → Shows node (meta_of listed (node, mtime))
-shows_meta listed (Dir mode) mtime = record { kind = refl; mode = refl; target = refl; number = tt }
-shows_meta listed (Link target) mtime = record { kind = refl; mode = refl; target = refl; number = tt }
-shows_meta listed (File number bytes mode) mtime = record { kind = refl; mode = refl; target = refl; number = refl }
+shows_meta : (t : FileTree) (node : Node) (mtime : ℤ) → Shows node (meta_of t node mtime)
+shows_meta t (Dir mode) mtime = record { kind = refl; mode = refl; target = refl; number = tt }
+shows_meta t (Link target) mtime = record { kind = refl; mode = refl; target = refl; number = tt }
+shows_meta t (File number bytes mode) mtime = record { kind = refl; mode = refl; target = refl; number = refl }
 
 one_byte : (b : ℕ) → 33 ≤ b → b ≤ 126 → IsOwner (b ∷ [])
 one_byte b low high = (omega arith, omega arith, at)
@@ -37,26 +25,36 @@ one_byte b low high = (omega arith, omega arith, at)
     at zero d within = (low, high)
     at (suc k) d within = absurd (omega (arith, within))
 
-lawful_meta : (listed : Listed) (node : Node) (mtime : ℤ) → IsLawful node → IsMeta (meta_of listed (node, mtime))
-lawful_meta listed (Dir mode) mtime is = record { shape = (is, refl); owner = one_byte 117 (omega arith) (omega arith); group = one_byte 103 (omega arith) (omega arith) }
-lawful_meta listed (Link target) mtime is = record { shape = (refl, is); owner = one_byte 117 (omega arith) (omega arith); group = one_byte 103 (omega arith) (omega arith) }
-lawful_meta listed (File number bytes mode) mtime is = record { shape = (is, refl); owner = one_byte 117 (omega arith) (omega arith); group = one_byte 103 (omega arith) (omega arith) }
+-- the target of a link is UTF-8
+abbrev pub IsText : Node → Type 0
+IsText (Dir mode) = Unit {0}
+IsText (Link target) = IsTrue (is_utf8 target)
+IsText (File number bytes mode) = Unit {0}
 
-shows_at : (listed : Listed) (o : Option (Node × ℤ)) (node : Node) → option_map (λ e. e.0) o ≡ Some node → Shows node (meta_at listed o)
-shows_at listed None node is = cc
-shows_at listed (Some e) node is = subst (λ n. Shows n (meta_of listed e)) (same_Some e.0 node is) (shows_meta listed e.0 e.1)
+no_text : IsTrue (is_utf8 [])
+no_text = is_utf8-from_IsUtf8 [] IsUtf8-nil
 
-lawful_at : (listed : Listed) (o : Option (Node × ℤ)) → ((node : Node) → option_map (λ e. e.0) o ≡ Some node → IsLawful node) → IsMeta (meta_at listed o)
-lawful_at listed None lawful = lawful_meta listed (Dir 0) _ (omega arith)
-lawful_at listed (Some e) lawful = lawful_meta listed e.0 e.1 (lawful e.0 refl)
+lawful_meta : (t : FileTree) (node : Node) (mtime : ℤ) → IsLawful node → IsText node → IsMeta (meta_of t node mtime)
+lawful_meta t (Dir mode) mtime is text = record { links = omega arith; size = omega arith; text = no_text; shape = (is, refl); owner = one_byte 117 (omega arith) (omega arith); group = one_byte 103 (omega arith) (omega arith) }
+lawful_meta t (Link target) mtime is text = record { links = omega arith; size = (let most = is.1 in omega arith); text = text; shape = (refl, is); owner = one_byte 117 (omega arith) (omega arith); group = one_byte 103 (omega arith) (omega arith) }
+lawful_meta t (File number bytes mode) mtime is text = record { links = omega arith; size = omega arith; text = no_text; shape = (is, refl); owner = one_byte 117 (omega arith) (omega arith); group = one_byte 103 (omega arith) (omega arith) }
 
-module _ (rows : List Row) (h : History) (reads : (q : Names) → get (tree_of rows) q ≡ get (current_tree h) q) (sound : IsSound h) where
-  same : (q : Names) → get (current_tree h) q ≡ option_map (λ e. e.0) (find path_cmp q (listed_rows rows))
-  same q = sym (reads q) ∙ get-from_entries path_cmp-total (pairs rows) q ∙ find_listed rows q
+shows_at : (t : FileTree) (o : Option Node) (mtime : ℤ) (node : Node) → o ≡ Some node → Shows node (meta_at t o mtime)
+shows_at t None mtime node is = cc
+shows_at t (Some n) mtime node is = subst (λ m. Shows m (meta_of t n mtime)) (same_Some n node is) (shows_meta t n mtime)
 
-  pub told_lawful : (p : Names) → IsMeta (fields_in (listed_rows rows) p)
-  told_lawful p = lawful_at (listed_rows rows) _ (λ node is. sound.tree.lawful p node (same p ∙ is))
+lawful_at : (t : FileTree) (o : Option Node) (mtime : ℤ) → ((node : Node) → o ≡ Some node → IsLawful node × IsText node) → IsMeta (meta_at t o mtime)
+lawful_at t None mtime lawful = lawful_meta t (Dir 0) _ (omega arith) tt
+lawful_at t (Some n) mtime lawful = let both = lawful n refl in lawful_meta t n mtime both.0 both.1
 
-  -- the fields that rows tell are those of the tree that the rows show
-  pub told_fields : AreFields (current_tree h) (fields_in (listed_rows rows))
-  told_fields = record { shows = λ p node is. shows_at (listed_rows rows) _ node (sym (same p) ∙ is); lawful = λ p stands. told_lawful p }
+text_at : (t : FileTree) → AreTexts t → (p : Names) (node : Node) → get t p ≡ Some node → IsText node
+text_at t texts p (Dir mode) is = tt
+text_at t texts p (Link target) is = texts.targets p target is
+text_at t texts p (File number bytes mode) is = tt
+
+pub told_lawful : (t : FileTree) (times : Times) → IsTree t → AreTexts t → (p : Names) → IsMeta (fields_of t times p)
+told_lawful t times tree texts p = lawful_at t (get t p) (times p) (λ node is. (tree.lawful p node is, text_at t texts p node is))
+
+-- the fields that are told show what stands
+pub told_fields : (t : FileTree) (times : Times) → IsTree t → AreTexts t → AreFields t (fields_of t times)
+told_fields t times tree texts = record { shows = λ p node is. shows_at t (get t p) (times p) node is; lawful = λ p stands. told_lawful t times tree texts p }

@@ -1,5 +1,14 @@
 pub mod Mem
+pub mod Times
+pub mod Slots
+pub mod Moves
+pub mod Lawful
+pub mod Stores
+pub mod Records
+pub mod Looks
 pub mod Allowed
+pub mod Choices
+pub mod Images
 pub mod MemHistory
 pub mod Built
 pub mod MemFields

@@ -4,6 +4,7 @@ use Rattle.std.specs.Cmp.Lexicographic.{pointwise}
 use Rattle.dired_text.specs.Paths.{Names, rest_below}
 use Rattle.tree_core.specs.declared.node.Change.{Change}
 use Rattle.tree_core.specs.declared.node.Change.TheVariants.{MakeDir, MakeLink, MakeHard, WriteFile, Rename, SetMode, Remove, RemoveDir, Sync}
+use Rattle.tree_core.specs.History.{History, Began, Then}
 use Rattle.mem_tree.specs.Mem.{is_same_path}
 
 -- in seconds since 1970; 0 where nothing stands
@@ -27,3 +28,8 @@ times_after (SetMode p mode) times q = times q
 times_after (Remove p) times q = if is_same_path p q then pos 0 else times q
 times_after (RemoveDir p) times q = if is_same_path p q then pos 0 else times q
 times_after Sync times q = times q
+
+-- the times now, of a history that began with these
+abbrev pub times_now : History → Times → Times
+times_now (Began t next) times = times
+times_now (Then h change) times = times_after change (times_now h times)

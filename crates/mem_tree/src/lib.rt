@@ -1,11 +1,23 @@
 //! A directory tree in memory, whose calls fail as it was told.
 #![tactic(auto)]
 
-mod apply;
+mod attempt;
 mod build;
-mod fields;
+mod changing;
+mod choices;
+mod conditions;
+mod files;
+mod lawful;
+mod looking;
 mod mem;
-mod rows;
+mod pending;
+mod renaming;
+mod replay;
+mod schedule;
+mod slots;
+mod store;
+#[cfg(test)]
+mod tests;
 
 pub use build::{BuildFault, Entry};
 pub use mem::MemTree;
