@@ -1,5 +1,5 @@
 -- What a call of a change answers with.
-use Rattle.std.proofs.Common.{◌≡◌, ℕ, ℤ, Bool, true, false, List, [], ◌∷◌, map, refl, sym, ◌∙◌, ap, subst, Option, Some, None, Result, Ok, Err, OnOk, OnErr, is_ok}
+use Rattle.std.proofs.Common.{◌≡◌, ℕ, ℤ, true, false, List, [], ◌∷◌, map, refl, sym, ◌∙◌, ap, Option, Some, None, Result, Ok, Err, OnOk, OnErr, is_ok}
 use Rattle.std.specs.Option.{SomeIff}
 use Rattle.std.proofs.lemmas.Option.{same_Some}
 use Rattle.mem_tree.specs.declared.slots.Content.{Content}

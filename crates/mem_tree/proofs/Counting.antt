@@ -1,7 +1,7 @@
 -- How many values of a finite map pass a test.
-use Rattle.std.proofs.Common.{◌≡◌, ℕ, suc, ◌+◌, ◌<◌, Bool, true, false, cond, T, List, [], ◌∷◌, length, filter, refl, sym, ◌∙◌, ap, subst, arith, Option, Some, None}
+use Rattle.std.proofs.Common.{◌≡◌, ℕ, ◌+◌, ◌<◌, Bool, true, false, cond, T, List, [], ◌∷◌, length, filter, refl, sym, ◌∙◌, ap, arith, Option, Some, None}
 use Rattle.std.proofs.lemmas.Bool.{cond-true, cond-false}
-use Rattle.std.specs.FinMap.{FinMap, find, put, is_sorted, IsAntisymmetric, get, insert, remove, entries, from_entries, empty, entries_sorted, entries-insert, get-entries, get-insert, get-remove, get-from_entries, same_map, empty_of_len, len-empty, len-entries}
+use Rattle.std.specs.FinMap.{FinMap, find, put, is_sorted, IsAntisymmetric, get, insert, remove, entries, from_entries, empty, entries_sorted, entries-insert, get-entries, get-insert, get-remove, get-from_entries, same_map}
 use Rattle.std.specs.FinMap.Entries.{below_all, by_order}
 use Rattle.std.specs.List.{AllByRecursion}
 use Rattle.std.specs.declared.cmp.Ordering.{Ordering}

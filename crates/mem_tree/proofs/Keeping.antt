@@ -1,24 +1,24 @@
 -- Each change of slots and files keeps the tree that the call makes.
-use Rattle.std.proofs.Common.{◌≡◌, ◌≢◌, ℕ, zero, suc, ◌+◌, ◌-◌, ◌<◌, ◌==◌, ℤ, pos, Bool, true, false, cond, List, [], ◌∷◌, ◌++◌, refl, sym, ◌∙◌, ap, subst, arith, Option, Some, None, is_some, IsTrue, if◌then◌else◌, Result, Ok, Err, OnOk, OnErr, nat_le}
+use Rattle.std.proofs.Common.{◌≡◌, ℕ, zero, suc, ◌+◌, ◌-◌, ◌<◌, ◌==◌, ℤ, pos, Bool, true, false, cond, [], refl, sym, ◌∙◌, ap, subst, arith, Option, Some, None, is_some, IsTrue, if◌then◌else◌, nat_le}
 use Rattle.std.proofs.lemmas.Bool.{cond-true, cond-false, eq-eqb, eqb-true, leb-true}
 use Rattle.std.proofs.lemmas.Option.{same_Some}
 use Rattle.std.specs.Option.{option_map}
-use Rattle.std.specs.FinMap.{FinMap, get, insert, remove, get-insert, get-remove, same_map}
-use Rattle.std.specs.Ordering.{nat_cmp, eq_by_cmp, is_eq}
+use Rattle.std.specs.FinMap.{get, insert, remove, get-insert, get-remove, same_map}
+use Rattle.std.specs.Ordering.{nat_cmp, eq_by_cmp}
 use Rattle.std.specs.Cmp.{nat_cmp_total}
 use Rattle.std.specs.FinMap.{nat_cmp-IsAntisymmetric}
-use Rattle.dired_text.specs.Paths.{Names, path_cmp}
-use Rattle.dired_text.proofs.PathLemmas.{path_cmp-total, path_cmp-exact, path_decides}
+use Rattle.dired_text.specs.Paths.{Names}
+use Rattle.dired_text.proofs.PathLemmas.{path_cmp-total, path_cmp-exact}
 use Rattle.tree_core.specs.declared.node.Node.{Node}
-use Rattle.tree_core.specs.declared.node.Node.TheVariants.{Dir, Link, File}
+use Rattle.tree_core.specs.declared.node.Node.TheVariants.{Dir, File}
 use Rattle.tree_core.specs.FileTree.{FileTree, IsAbsent, CanMake, HasMode, has_mode_node, is_file_node, insert_same, set_mode_of, with_nodes, with_file_mode}
-use Rattle.tree_core.proofs.TreeLemmas.{tie, same_tree, get-with_nodes}
+use Rattle.tree_core.proofs.TreeLemmas.{same_tree, get-with_nodes}
 use Rattle.mem_tree.specs.Mem.{is_same_path}
 use Rattle.mem_tree.specs.declared.slots.Content.{Content}
 use Rattle.mem_tree.specs.declared.slots.Content.TheVariants as content
 use Rattle.mem_tree.specs.declared.slots.Slot.{Slot}
 use Rattle.mem_tree.specs.declared.files.FileBody.{FileBody}
-use Rattle.mem_tree.specs.Slots.{Slots, Files, Keep, FilesBelow, node_of, file_node, tree_in, time_at, times_in, timed, is_number, places_of, positive, Counted, content_number, changed_body, changed_slot, with_mode, with_paths, with_path, raised_body, with_content, without_path, less_one, file_number}
+use Rattle.mem_tree.specs.Slots.{Slots, Files, Keep, FilesBelow, node_of, file_node, tree_in, time_at, times_in, timed, is_number, places_of, positive, Counted, content_number, changed_body, changed_slot, with_mode, with_paths, with_content, without_path, less_one, file_number}
 use Rattle.mem_tree.specs.Times.{Times}
 use Rattle.mem_tree.proofs.Counting.{weight, count-insert, count-new, count-remove, count_some, count_none}
 use Rattle.mem_tree.proofs.TreeOf.{slot_absent, node_in, is_slot_of, get-tree, tree-insert, tree-remove, tree-files, times-insert, times-remove, number_tie, number_decides, same_path_decides, positive_same, positive_none, positive_more, body_stands}

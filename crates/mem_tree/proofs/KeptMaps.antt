@@ -1,18 +1,17 @@
 -- The maps of slots and of files, as finite maps.
-use Rattle.std.proofs.Common.{◌≡◌, ℕ, Bool, true, false, cond, List, [], ◌∷◌, ◌++◌, map, refl, sym, ◌∙◌, ap, subst, Option, Some, None, is_some, Bor}
-use Rattle.std.specs.Option.{option_map}
+use Rattle.std.proofs.Common.{◌≡◌, ℕ, true, List, [], ◌∷◌, ◌++◌, map, refl, sym, ◌∙◌, ap, Some, None, is_some, Bor}
 use Rattle.std.specs.declared.cmp.Ordering.{Ordering}
 use Rattle.std.specs.Iterator.{Yields}
 use Rattle.std.specs.Map.Iter.{TakesFirst, deref_pair}
 use Rattle.std.proofs.lemmas.Map.Iter.{rest_so_far}
 use Rattle.std.proofs.lemmas.List.{append-nil, map-append}
-use Rattle.std.specs.FinMap.{FinMap, find, is_sorted, get, insert, remove, entries, from_entries, get-insert}
+use Rattle.std.specs.FinMap.{FinMap, is_sorted, get, insert, remove, entries, from_entries}
 use Rattle.std.specs.Cmp.{IsTotalOrder, nat_cmp_total}
-use Rattle.std.specs.Ordering.{nat_cmp, is_eq, eq_by_cmp}
+use Rattle.std.specs.Ordering.{nat_cmp, is_eq}
 use Rattle.std.specs.FinMap.{IsAntisymmetric, nat_cmp-IsAntisymmetric}
 use Rattle.std.specs.List.Sorted.{IsStrictlySortedBy}
 use Rattle.std.specs.BTreeMap.{BTreeMap, UpdatesBy, WritesThrough}
-use Rattle.std.specs.Map.{lookup, keys_of, set_value}
+use Rattle.std.specs.Map.{lookup, keys_of}
 use Rattle.std.specs.declared.vec.Vec.{Vec}
 use Rattle.dired_text.specs.Paths.{Names, path_cmp}
 use Rattle.dired_text.proofs.PathLemmas.{path_cmp-total, path_cmp-exact}

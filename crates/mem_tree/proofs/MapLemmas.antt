@@ -1,15 +1,15 @@
 -- An ordered map in memory, whose keys are read as others, as a finite map.
 use Rattle.std.proofs.Common.{◌≡◌, Bool, true, false, cond, ◌&&◌, List, [], ◌∷◌, ◌++◌, map, refl, sym, ◌∙◌, ap, subst, T, Option, Some, None}
-use Rattle.std.proofs.lemmas.Bool.{cond-true, cond-false, cases_Bool}
-use Rattle.std.specs.FinMap.{FinMap, find, is_sorted, IsAntisymmetric, get, insert, remove, entries, from_entries, from_sorted, same_map, get-from_entries, get-from_sorted, entries-from_sorted, get-insert, get-remove, get-entries, from_entries_push}
+use Rattle.std.proofs.lemmas.Bool.{cond-true, cond-false}
+use Rattle.std.specs.FinMap.{FinMap, find, is_sorted, IsAntisymmetric, get, insert, remove, entries, from_entries, from_sorted, same_map, get-from_entries, get-from_sorted, entries-from_sorted, get-insert, get-remove, from_entries_push}
 use Rattle.std.specs.FinMap.Entries.{below_all, find_tied}
 use Rattle.std.specs.List.{AllByRecursion}
 use Rattle.std.specs.List.Sorted.{IsStrictlySortedBy}
 use Rattle.std.specs.declared.cmp.Ordering.{Ordering}
 use Rattle.std.specs.declared.cmp.Ordering.TheVariants.{Less, Equal, Greater}
 use Rattle.std.specs.Ordering.{eq_by_cmp, is_lt, is_eq, ordering_reverse}
-use Rattle.std.specs.Cmp.{IsTotalOrder, eq_by_cmp_equiv, tied_itself}
-use Rattle.std.specs.BTreeMap.{BTreeMap, UpdatesBy, is_at}
+use Rattle.std.specs.Cmp.{IsTotalOrder, tied_itself}
+use Rattle.std.specs.BTreeMap.{BTreeMap, UpdatesBy}
 use Rattle.std.specs.Map.{lookup, keys_of, KeepsOthers}
 use Rattle.std.proofs.lemmas.Map.Keys.{sorted_head, sorted_tail}
 

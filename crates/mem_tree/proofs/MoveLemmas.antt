@@ -1,25 +1,23 @@
 -- What the moves of a rename come to.
-use Rattle.std.proofs.Common.{◌≡◌, ℕ, suc, Bool, true, false, cond, ◌||◌, List, [], ◌∷◌, ◌++◌, map, length, filter, refl, sym, ◌∙◌, ap, subst, arith, Option, Some, None, is_some, IsTrue}
+use Rattle.std.proofs.Common.{◌≡◌, ℕ, suc, Bool, true, false, cond, ◌||◌, List, [], ◌∷◌, ◌++◌, map, length, filter, refl, sym, ◌∙◌, ap, subst, Option, Some, None, is_some, IsTrue}
 use Rattle.std.proofs.lemmas.Bool.{cond-true, cond-false}
 use Rattle.std.proofs.lemmas.Bool.Decides.{same_from_decides, Decides-like}
-use Rattle.std.proofs.lemmas.Option.{same_Some}
 use Rattle.std.specs.Option.{option_map}
 use Rattle.std.specs.List.{AllByRecursion, list_any}
-use Rattle.std.specs.FinMap.{FinMap, find, is_sorted, get, insert, remove, entries, keys, from_entries, get-insert, get-remove, get-entries}
+use Rattle.std.specs.FinMap.{find, is_sorted, get, remove, entries, keys, get-insert, get-remove, get-entries}
 use Rattle.std.specs.FinMap.Entries.{below_all}
-use Rattle.std.specs.Ordering.{eq_by_cmp, is_eq}
 use Rattle.dired_text.specs.Paths.{Names, path_cmp, rest_below, is_below}
 use Rattle.dired_text.proofs.PathLemmas.{path_cmp-total, path_cmp-exact, path_decides, rest_below-append, rest_below-some, append_cancel}
 use Rattle.tree_core.specs.declared.node.Node.{Node}
 use Rattle.tree_core.specs.FileTree.{FileTree, IsTree, IsAbsent, CanRename, moved, moved_rest, moved_entry, after_rename, renamed}
 use Rattle.tree_core.proofs.TreeLemmas.{tie, tie-other, same_tree, find-moved, get-renamed, absent_below}
 use Rattle.mem_tree.specs.declared.slots.Slot.{Slot}
-use Rattle.mem_tree.specs.Slots.{Slots, Files, Keep, Counted, tree_in, times_in, time_at, places_of, positive}
+use Rattle.mem_tree.specs.Slots.{Slots, Files, Keep, Counted, tree_in, times_in, time_at, positive}
 use Rattle.mem_tree.specs.Moves.{Pairs, moves_of, is_target, copied_slot, with_copies, without_each, after_move}
 use Rattle.mem_tree.specs.MemFields.{is_file_of, paths_of}
-use Rattle.mem_tree.specs.Times.{Times, renamed_time}
+use Rattle.mem_tree.specs.Times.{renamed_time}
 use Rattle.mem_tree.proofs.MapLemmas.{parts_true, find_under, all_entries}
-use Rattle.mem_tree.proofs.Counting.{count, count_list, AreApart, count-made, sorted_entries}
+use Rattle.mem_tree.proofs.Counting.{count_list, AreApart, count-made, sorted_entries}
 use Rattle.mem_tree.proofs.TreeOf.{node_in, get-tree, paths-tree, slot_absent}
 
 -- ---- one more in a fold
@@ -321,7 +319,7 @@ moved_apart from to (e ∷ es) s clear =
         ∙ ap (λ p. find path_cmp p es) (sym (rest_below-some from e.0 r is)) ∙ none
 
 -- a rename changes no count
-paths-renamed : (t : FileTree) (from to : Names) → ((r : Names) → IsAbsent t (to ++ r)) → (n : ℕ) → paths_of n (renamed t from to) ≡ paths_of n t
+pub paths-renamed : (t : FileTree) (from to : Names) → ((r : Names) → IsAbsent t (to ++ r)) → (n : ℕ) → paths_of n (renamed t from to) ≡ paths_of n t
 unfolding renamed
 paths-renamed t from to clear n =
     count-made (is_file_of n) path_cmp-total path_cmp-exact (map (moved_entry from to) (entries t)) (moved_apart from to (entries t) (sorted_entries t) (λ r. sym (get-entries t (to ++ r)) ∙ clear r))

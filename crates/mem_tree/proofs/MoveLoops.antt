@@ -1,6 +1,6 @@
 -- The loops of a rename, move by move.
-use Rattle.std.proofs.Common.{◌≡◌, ℕ, ◌+◌, ◌<◌, ◌≤◌, Bool, true, false, ◌||◌, List, [], ◌∷◌, ◌++◌, map, length, take, drop, get_or, refl, sym, ◌∙◌, ap, Option, Some, None}
-use Rattle.std.proofs.lemmas.List.{take_more, take_all, take-append-drop, map-append}
+use Rattle.std.proofs.Common.{◌≡◌, ℕ, ◌+◌, ◌<◌, Bool, true, false, ◌||◌, List, [], ◌∷◌, ◌++◌, map, length, take, drop, get_or, refl, sym, ◌∙◌, ap, Option, Some, None}
+use Rattle.std.proofs.lemmas.List.{take_more, take-append-drop, map-append}
 use Rattle.std.proofs.lemmas.List.Folds.{list_any-append}
 use Rattle.std.specs.FinMap.{get, insert, remove}
 use Rattle.std.specs.List.{list_any}
@@ -9,7 +9,7 @@ use Rattle.tree_core.proofs.TreeLemmas.{tie}
 use Rattle.mem_tree.specs.declared.slots.Slot.{Slot}
 use Rattle.mem_tree.specs.declared.renaming.Move.{Move}
 use Rattle.mem_tree.specs.Slots.{Slots}
-use Rattle.mem_tree.specs.Moves.{Pairs, pairs_of, is_target, copied_slot, with_copies, without_each}
+use Rattle.mem_tree.specs.Moves.{pairs_of, is_target, copied_slot, with_copies, without_each}
 use Rattle.mem_tree.proofs.MoveLemmas.{with_copies-push, without_each-push, copies-others}
 
 -- one more of a list

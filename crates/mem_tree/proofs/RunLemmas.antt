@@ -1,8 +1,7 @@
 -- What is at or below a path stands together in the order of the paths.
-use Rattle.std.proofs.Common.{◌≡◌, ℕ, Bool, true, false, cond, not, ◌&&◌, ◌||◌, T, List, [], ◌∷◌, ◌++◌, map, filter, refl, sym, ◌∙◌, ap, subst, Option, Some, None, is_some}
-use Rattle.std.proofs.lemmas.List.{append-nil}
+use Rattle.std.proofs.Common.{◌≡◌, ℕ, Bool, true, false, cond, ◌&&◌, ◌||◌, T, List, [], ◌∷◌, ◌++◌, map, filter, refl, sym, ◌∙◌, ap, subst, Option, Some, None, is_some}
 use Rattle.std.specs.List.{AllByRecursion, list_any}
-use Rattle.std.specs.FinMap.{get, is_sorted, entries, keys, from_entries, get-entries}
+use Rattle.std.specs.FinMap.{is_sorted}
 use Rattle.std.specs.FinMap.Entries.{where_key, below_all, is_sorted-where_key}
 use Rattle.std.specs.declared.cmp.Ordering.{Ordering}
 use Rattle.std.specs.declared.cmp.Ordering.TheVariants.{Less, Equal, Greater}
@@ -14,14 +13,13 @@ use Rattle.std.specs.Str.{bytes_eq}
 use Rattle.std.proofs.lemmas.Slice.Eq.{bytes_eq-Decides}
 use Rattle.std.proofs.lemmas.Bool.{cond-true, cond-false}
 use Rattle.std.specs.declared.vec.Vec.{Vec}
-use Rattle.std.specs.declared.ops.Bound.{Bound}
 use Rattle.std.specs.declared.ops.Bound.TheVariants.{Included, Unbounded}
-use Rattle.std.specs.BTreeMap.Range.{entries_between, range_contains}
+use Rattle.std.specs.BTreeMap.Range.{entries_between}
 use Rattle.dired_text.specs.Paths.{Names, path_cmp, rest_below, is_below}
-use Rattle.dired_text.proofs.PathLemmas.{path_cmp-total, path_cmp-exact, rest_below-append, rest_below-some}
+use Rattle.dired_text.proofs.PathLemmas.{path_cmp-exact, rest_below-some}
 use Rattle.tree_core.specs.Fields.{child_name, only_name}
 use Rattle.mem_tree.specs.declared.slots.Slot.{Slot}
-use Rattle.mem_tree.specs.Slots.{Slots, placed}
+use Rattle.mem_tree.specs.Slots.{placed}
 use Rattle.mem_tree.proofs.MapLemmas.{parts_true, less_of, cmp_read}
 use Rattle.mem_tree.proofs.KeptMaps.{names}
 

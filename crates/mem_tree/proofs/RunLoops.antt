@@ -9,7 +9,7 @@ use Rattle.std.specs.Ordering.{is_eq}
 use Rattle.std.specs.declared.cmp.Ordering.TheVariants.{Equal}
 use Rattle.std.specs.declared.ops.Bound.TheVariants.{Included, Unbounded}
 use Rattle.std.specs.BTreeMap.Range.{entries_between}
-use Rattle.std.specs.FinMap.{get, is_sorted, entries, keys, from_entries}
+use Rattle.std.specs.FinMap.{get, is_sorted, keys, from_entries}
 use Rattle.std.specs.declared.vec.Vec.{Vec}
 use Rattle.dired_text.specs.Paths.{Names, path_cmp, rest_below, is_below}
 use Rattle.tree_core.specs.Fields.{child_name}
@@ -17,7 +17,7 @@ use Rattle.mem_tree.specs.declared.slots.Slot.{Slot}
 use Rattle.mem_tree.specs.Slots.{Slots, placed}
 use Rattle.mem_tree.proofs.MapLemmas.{cmp_read}
 use Rattle.mem_tree.proofs.KeptMaps.{names, slot_entries, get_slot}
-use Rattle.mem_tree.proofs.RunLemmas.{Run, Placed, firsts, is_child, run_tail, run_end, run_childless, range_below, range_children}
+use Rattle.mem_tree.proofs.RunLemmas.{Run, firsts, is_child, run_tail, run_end, run_childless, range_below, range_children}
 
 some_same : {A B : Type 0} (f : A → B) (o : Option A) → is_some (option_map f o) ≡ is_some o
 some_same f None = refl
@@ -82,7 +82,7 @@ module _ {Z : Type 0} where
       clash e = cc
 
   module _ (es range : List (Vec (List ℕ) Z × Slot)) (first : Vec (List ℕ) Z) (p : Names) (slots : Slots) (same : path_cmp p first.items ≡ Equal)
-    (between : range ≡ entries_between (cmp_read names path_cmp) (Included first) Unbounded es) (sorted : is_sorted path_cmp (placed es) ≡ true) (view : from_entries {R = path_cmp} (placed es) ≡ slots) where
+      (between : range ≡ entries_between (cmp_read names path_cmp) (Included first) Unbounded es) (sorted : is_sorted path_cmp (placed es) ≡ true) (view : from_entries {R = path_cmp} (placed es) ≡ slots) where
     pub all_below : filter (is_below p) (firsts (placed range)) ≡ filter (is_below p) (keys slots)
     all_below = range_below es range first p same between sorted ∙ ap (filter (is_below p)) (keys_are es slots sorted view)
 

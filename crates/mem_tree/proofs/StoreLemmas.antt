@@ -1,25 +1,24 @@
 -- What every store keeps.
-use Rattle.std.proofs.Common.{◌≡◌, ℕ, pos, Bool, true, false, cond, List, [], ◌∷◌, ◌++◌, refl, sym, ◌∙◌, ap, subst, Option, Some, None, is_some, IsTrue, Result, Ok, Err, OnOk, OnErr}
-use Rattle.std.proofs.lemmas.Bool.{cond-true, cond-false}
+use Rattle.std.proofs.Common.{◌≡◌, ℕ, pos, Bool, true, false, cond, List, [], ◌∷◌, ◌++◌, refl, sym, ◌∙◌, ap, subst, arith, Option, Some, None, is_some, IsTrue, Result, Ok, Err, OnOk, OnErr}
+use Rattle.std.proofs.lemmas.Bool.{cond-false}
 use Rattle.std.specs.Option.{option_map}
 use Rattle.std.specs.FinMap.{get, insert, empty, get-insert, get-empty}
 use Rattle.std.specs.Ordering.{nat_cmp}
 use Rattle.dired_text.specs.Paths.{Names, path_cmp, parent}
 use Rattle.dired_text.proofs.PathLemmas.{path_cmp-total, path_cmp-exact, path_decides, parent-push}
 use Rattle.tree_core.specs.declared.node.Node.{Node}
-use Rattle.tree_core.specs.declared.node.Node.TheVariants.{Dir}
+use Rattle.tree_core.specs.declared.node.Node.TheVariants.{Dir, File}
 use Rattle.tree_core.specs.declared.node.Change.{Change}
+use Rattle.tree_core.specs.declared.node.Change.TheVariants.{MakeDir, MakeLink, MakeHard, WriteFile, Rename, SetMode, Remove, RemoveDir, Sync}
 use Rattle.tree_core.specs.FileTree.{FileTree, IsTree, IsDir, Stands, CanDo, done, root_tree}
-use Rattle.tree_core.specs.History.{Began, IsSound}
 use Rattle.tree_core.proofs.TreeLemmas.{tie, tie-other, same_tree, dir_stands}
-use Rattle.tree_core.proofs.Sound.{sound_then}
+use Rattle.tree_core.proofs.Sound.{inserted_tree, tree_kept}
 use Rattle.mem_tree.specs.declared.slots.Content.TheVariants as content
 use Rattle.mem_tree.specs.declared.slots.Slot.{Slot}
 use Rattle.mem_tree.specs.declared.files.FileBody.{FileBody}
-use Rattle.mem_tree.specs.Slots.{Slots, Files, FilesBelow, ParentsStand, Counted, tree_in, times_in, time_at, timed, places_of, positive}
-use Rattle.mem_tree.specs.Times.{Times}
+use Rattle.mem_tree.specs.Slots.{Slots, Files, FilesBelow, ParentsStand, Counted, tree_in, times_in, time_at, places_of, positive}
 use Rattle.mem_tree.proofs.Counting.{count_none}
-use Rattle.mem_tree.proofs.TreeOf.{node_in, is_slot_of, get-tree, tree-insert, times-insert, slot_stands}
+use Rattle.mem_tree.proofs.TreeOf.{node_in, is_slot_of, get-tree, slot_stands}
 
 pub either : {T E A B C : Type 0} (r : Result T E) → OnOk r A → OnErr r B → (A → C) → (B → C) → C
 either (Ok v) a b f g = f a
@@ -37,10 +36,20 @@ module _ (slots : Slots) (files : Files) where
   parents_stand tree p name stands = slot_stands slots files p (dir_stands _ (tree.parents p name (tree_stands (p ++ name ∷ []) stands)))
 
 -- behind a call that could be done
+tree_behind : (change : Change) (next : ℕ) (t : FileTree) → IsTree t → FilesBelow next t → CanDo change t → IsTree (done change next t)
+tree_behind (WriteFile p bytes mode) next t tree below can = inserted_tree t p (File next bytes mode) tree can.0
+    (λ q number b c m k is at_q. absurd (let low = below q number c k at_q in let same : next ≡ number = cc in omega arith)) can.1
+tree_behind (MakeDir p mode) next t tree below can = tree_kept (MakeDir p mode) t next refl tree can
+tree_behind (MakeLink p target) next t tree below can = tree_kept (MakeLink p target) t next refl tree can
+tree_behind (MakeHard p old) next t tree below can = tree_kept (MakeHard p old) t next refl tree can
+tree_behind (Rename from to) next t tree below can = tree_kept (Rename from to) t next refl tree can
+tree_behind (SetMode p mode) next t tree below can = tree_kept (SetMode p mode) t next refl tree can
+tree_behind (Remove p) next t tree below can = tree_kept (Remove p) t next refl tree can
+tree_behind (RemoveDir p) next t tree below can = tree_kept (RemoveDir p) t next refl tree can
+tree_behind Sync next t tree below can = tree
+
 pub parents_after : (change : Change) (next : ℕ) (t : FileTree) (slots : Slots) (files : Files) → IsTree t → FilesBelow next t → CanDo change t → tree_in slots files ≡ done change next t → ParentsStand slots
-parents_after change next t slots files tree below can is =
-    let sound = sound_then change (Began t next) record { tree = tree; above = below } can in
-    parents_stand slots files (subst IsTree (sym is) sound.tree)
+parents_after change next t slots files tree below can is = parents_stand slots files (subst IsTree (sym is) (tree_behind change next t tree below can))
 
 -- behind a node that was put into a directory
 pub parents_added : (slots : Slots) (files : Files) (path : Names) (node : Node) (later : Slots) (more : Files) → ParentsStand slots → IsDir (tree_in slots files) (parent path) → tree_in later more ≡ insert (tree_in slots files) path node → ParentsStand later

@@ -25,13 +25,12 @@ use Rattle.mem_tree.specs.declared.files.FileBody.{FileBody}
 use Rattle.mem_tree.specs.Slots.{Slots, Files, ParentsStand, Counted, node_of, file_node, tree_in, times_in, time_at, content_kind, content_number, content_target, file_bytes, file_paths, file_number, links_in, positive, places_of}
 use Rattle.mem_tree.specs.Stores.{bytes_of, bytes_at}
 use Rattle.mem_tree.specs.MemFields.{number_of, size_of, paths_of, links_of, meta_of, meta_at, fields_of}
-use Rattle.mem_tree.specs.Times.{Times}
 use Rattle.std.specs.declared.vec.Vec.{Vec}
 use Rattle.std.specs.Map.Iter.{TakesFirst, deref_pair}
 use Rattle.mem_tree.specs.Slots.{placed}
 use Rattle.mem_tree.proofs.RunLemmas.{Placed, is_child}
-use Rattle.mem_tree.proofs.TreeOf.{node_in, shown_nodes, get-tree, entries-tree, keys-tree, paths-tree, slot_absent}
-use Rattle.mem_tree.proofs.Keeping.{FileAt, file_at, file_shown}
+use Rattle.mem_tree.proofs.TreeOf.{node_in, shown_nodes, get-tree, entries-tree, keys-tree, paths-tree}
+use Rattle.mem_tree.proofs.Keeping.{file_at, file_shown}
 
 -- ---- one slot
 

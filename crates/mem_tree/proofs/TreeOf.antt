@@ -1,11 +1,11 @@
 -- The tree that slots and files stand for.
-use Rattle.std.proofs.Common.{◌≡◌, ◌≢◌, ℕ, zero, suc, ◌+◌, ◌-◌, ◌<◌, ◌==◌, ℤ, pos, Bool, true, false, cond, ◌&&◌, List, [], ◌∷◌, ◌++◌, map, length, filter, refl, sym, ◌∙◌, ap, subst, arith, Option, Some, None, is_some, IsTrue, if◌then◌else◌}
-use Rattle.std.proofs.lemmas.Bool.{cond-true, cond-false, eq-eqb, eqb-true}
+use Rattle.std.proofs.Common.{◌≡◌, ℕ, zero, suc, ◌+◌, ◌<◌, ◌==◌, pos, Bool, true, false, cond, ◌&&◌, List, [], ◌∷◌, map, length, filter, refl, sym, ◌∙◌, ap, subst, arith, Option, Some, None, is_some, IsTrue, if◌then◌else◌}
+use Rattle.std.proofs.lemmas.Bool.{eq-eqb, eqb-true}
 use Rattle.std.proofs.lemmas.Bool.Decides.{same_from_decides}
 use Rattle.std.proofs.lemmas.Slice.Eq.{slice_eq-Decides, bytes_eq-Decides}
 use Rattle.std.specs.Option.{option_map}
 use Rattle.std.specs.Bool.{Decides}
-use Rattle.std.specs.FinMap.{FinMap, find, is_sorted, get, insert, remove, entries, from_entries, get-entries, get-insert, get-remove}
+use Rattle.std.specs.FinMap.{find, is_sorted, get, insert, remove, entries, get-entries, get-insert, get-remove}
 use Rattle.std.specs.FinMap.Entries.{below_all}
 use Rattle.std.specs.Ordering.{nat_cmp, eq_by_cmp, is_eq, is_lt}
 use Rattle.std.specs.Cmp.{nat_cmp_total, tied_itself}
@@ -13,19 +13,17 @@ use Rattle.std.specs.FinMap.{nat_cmp-IsAntisymmetric}
 use Rattle.dired_text.specs.Paths.{Names, path_cmp}
 use Rattle.dired_text.proofs.PathLemmas.{path_cmp-total, path_cmp-exact, path_decides}
 use Rattle.tree_core.specs.declared.node.Node.{Node}
-use Rattle.tree_core.specs.declared.node.Node.TheVariants.{Dir, Link, File}
-use Rattle.tree_core.specs.FileTree.{FileTree, IsAbsent}
-use Rattle.tree_core.proofs.TreeLemmas.{tie, tie-other, same_tree, get-made}
+use Rattle.tree_core.specs.FileTree.{IsAbsent}
+use Rattle.tree_core.proofs.TreeLemmas.{tie, same_tree, get-made}
 use Rattle.mem_tree.specs.Mem.{is_same_path}
 use Rattle.mem_tree.specs.MemFields.{is_file_of, paths_of}
 use Rattle.mem_tree.specs.declared.slots.Content.{Content}
 use Rattle.mem_tree.specs.declared.slots.Content.TheVariants as content
 use Rattle.mem_tree.specs.declared.slots.Slot.{Slot}
 use Rattle.mem_tree.specs.declared.files.FileBody.{FileBody}
-use Rattle.mem_tree.specs.Slots.{Slots, Files, node_of, file_node, tree_in, time_at, times_in, timed, is_number, places_of, positive, Counted, content_number}
-use Rattle.mem_tree.specs.Times.{Times}
-use Rattle.mem_tree.proofs.MapLemmas.{parts_true, both_true, equal_of, entries-made}
-use Rattle.mem_tree.proofs.Counting.{count, count_list, weight, sorted_entries, count-insert, count-new, count-remove, count_some, count_none}
+use Rattle.mem_tree.specs.Slots.{Slots, Files, node_of, file_node, tree_in, time_at, times_in, timed, is_number, places_of, positive, Counted}
+use Rattle.mem_tree.proofs.MapLemmas.{equal_of, entries-made}
+use Rattle.mem_tree.proofs.Counting.{count_list, sorted_entries, count_some}
 
 -- ---- the two tests of paths, and of numbers
 

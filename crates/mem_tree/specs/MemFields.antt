@@ -1,5 +1,5 @@
 -- The fields of the entries of a tree in memory.
-use Rattle.std.specs.Prelude.{◌≡◌, ℕ, ◌==◌, ◌-◌, ◌^◌, min, Bool, false, ℤ, pos, List, length, codes, Option, Some, None}
+use Rattle.std.specs.Prelude.{ℕ, ◌==◌, ◌-◌, ◌^◌, min, Bool, false, ℤ, pos, length, codes, Option, Some, None}
 use Rattle.std.specs.List.{filter}
 use Rattle.std.specs.FinMap.{get, entries}
 use Rattle.dired_text.specs.Paths.{Names}

@@ -1,9 +1,8 @@
 -- The moves of a rename, slot by slot.
-use Rattle.std.specs.Prelude.{◌≡◌, ◌++◌, Bool, List, [], ◌∷◌, map, Option, Some, None}
+use Rattle.std.specs.Prelude.{◌++◌, Bool, List, [], ◌∷◌, map, Option, Some, None}
 use Rattle.std.specs.List.{filter, list_any}
 use Rattle.std.specs.Ordering.{eq_by_cmp}
 use Rattle.std.specs.FinMap.{get, insert, remove, keys}
-use Rattle.std.specs.declared.vec.Vec.{Vec}
 use Rattle.dired_text.specs.Paths.{Names, path_cmp, is_below}
 use Rattle.tree_core.specs.FileTree.{moved}
 use Rattle.mem_tree.specs.declared.slots.Slot.{Slot}

@@ -9,10 +9,10 @@ use Rattle.mem_tree.specs.Slots.{tree_in, times_in}
 use Rattle.mem_tree.specs.Times.{Times}
 
 -- what stands at each path
-abbrev pub tree_of : Store → FileTree
+unfoldable pub tree_of : Store → FileTree
 tree_of s = tree_in s.slots s.files
 
-abbrev pub times_of : Store → Times
+unfoldable pub times_of : Store → Times
 times_of s = times_in s.slots
 
 abbrev pub bytes_of : Node → Option (List ℕ)

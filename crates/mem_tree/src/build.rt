@@ -65,6 +65,7 @@ fn number_above(node: &Node) -> u64
 ///
 /// # Errors
 /// `BadEntry` with the place, from 0, of the first entry that may not follow those before it.
+#[tactic(auto, unfolding(crate::specs::Stores::tree_of, crate::specs::Stores::times_of))]
 pub fn store_of(alloc: Global, entries: &[Entry]) -> Result<(Store, u64), BuildFault>
     ensures good { IfOk result (λ found. first_bad [] entries.now ≡ None) }
     ensures bad { IfErr result (λ fault. Refuses entries.now fault) }

@@ -186,9 +186,7 @@ pub fn apply(
     ensures err { OnErr result ((slots.new ≡ slots.old) × (files.new ≡ files.old)) }
 {
     match change {
-        Change::MakeDir(path, mode) => {
-            make(slots, files, path.names(), Content::Dir(*mode), 0)
-        }
+        Change::MakeDir(path, mode) => { make(slots, files, path.names(), Content::Dir(*mode), 0) }
         Change::MakeLink(path, target) => {
             let content = Content::Link(target.copy()?);
             make(slots, files, path.names(), content, 0)

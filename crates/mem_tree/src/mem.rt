@@ -60,6 +60,7 @@ pub struct MemTree {
 
 // The bytes of a file, at most `limit` of them.
 fn read_from(store: &Store, alloc: Global, path: &Path, limit: u64) -> Result<Bytes, ReadEnd>
+    requires { IsFile (tree_of store.now) path.now }
     ensures read { IsRead (get (tree_of store.now) path.now) limit result }
     ensures limit { IfOk result (λ bytes. length bytes ≤ limit) }
     ensures held { read_failed result ≡ false }
@@ -71,7 +72,7 @@ fn read_from(store: &Store, alloc: Global, path: &Path, limit: u64) -> Result<By
             }
             Ok(Bytes::copy_of(alloc, bytes)?)
         }
-        None => Ok(Bytes::copy_of(alloc, &[])?),
+        None => unreachable!(),
     }
 }
 

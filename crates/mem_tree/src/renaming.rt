@@ -87,12 +87,7 @@ fn remove_news(slots: &mut SlotMap, moves: &[Move])
 
 /// Moves the slot at `from` and all below it to the same places below `to`. Memory is taken only before the first slot
 /// leaves its place.
-pub fn rename(
-    alloc: Global,
-    slots: &mut SlotMap,
-    from: &[Name],
-    to: &[Name],
-) -> Result<(), Memory>
+pub fn rename(alloc: Global, slots: &mut SlotMap, from: &[Name], to: &[Name]) -> Result<(), Memory>
     requires stands { IsSome (get slots.old from.now) }
     requires clear { (r : Names) → get slots.old (to.now ++ r) ≡ None }
     ensures ok { OnOk result ((q : Names) → get slots.new q ≡ after_move (rest_of to.now q) (rest_of from.now q) (get slots.old) from.now q) }

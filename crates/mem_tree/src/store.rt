@@ -69,6 +69,7 @@ impl Store {
     ///
     /// # Errors
     /// Where memory is refused nothing has changed.
+    #[tactic(auto, unfolding(crate::specs::Stores::tree_of, crate::specs::Stores::times_of))]
     pub fn apply(&mut self, change: &Change, next: u64) -> Result<(), Memory>
         requires tree { IsTree (tree_of self.old) }
         requires can { CanDo change.now (tree_of self.old) }
@@ -230,6 +231,7 @@ impl Store {
     }
 
     /// Puts a node at an absent path in a directory. A file of its number that is kept has its bytes and mode.
+    #[tactic(auto, unfolding(crate::specs::Stores::tree_of, crate::specs::Stores::times_of))]
     pub fn add(&mut self, path: &Path, node: &Node, mtime: i64) -> Result<(), Memory>
         requires absent { IsAbsent (tree_of self.old) path.now }
         requires parent { IsDir (tree_of self.old) (parent_of path.now) }

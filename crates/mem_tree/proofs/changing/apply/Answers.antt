@@ -1,4 +1,4 @@
-use Rattle.std.proofs.Common.{◌≡◌, ℕ, List, inl, inr, refl, sym, ◌∙◌, ap, subst, pos, is_some}
+use Rattle.std.proofs.Common.{inl, inr, sym, ◌∙◌, ap, subst, pos, is_some}
 use Rattle.std.specs.FinMap.{get, insert, remove}
 use Rattle.dired_text.specs.Paths.{Names}
 use Rattle.tree_core.specs.declared.node.Node.TheVariants.{Dir, Link, File}

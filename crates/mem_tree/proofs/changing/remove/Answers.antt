@@ -1,4 +1,4 @@
-use Rattle.std.proofs.Common.{sym, ◌∙◌, ap, subst, pos, Some}
+use Rattle.std.proofs.Common.{sym, ◌∙◌, ap, subst, pos}
 use Rattle.std.specs.FinMap.{remove}
 use Rattle.mem_tree.specs.Slots.{Slots, Files, Keep, tree_in, times_in, timed, file_number, content_number}
 use Rattle.mem_tree.proofs.Answering.{not_a_file}

@@ -1,4 +1,4 @@
-use Rattle.std.proofs.Common.{◌≡◌, ◌∙◌, ap, sym, map}
+use Rattle.std.proofs.Common.{◌∙◌, ap, sym, map}
 use Rattle.std.specs.FinMap.{get, same_map}
 use Rattle.dired_text.proofs.PathLemmas.{path_cmp-total, path_cmp-exact}
 use Rattle.mem_tree.specs.Slots.{Slots}

@@ -4,7 +4,7 @@ use Rattle.std.specs.List.{filter}
 use Rattle.dired_text.specs.Paths.{is_below}
 use Rattle.mem_tree.specs.Slots.{placed}
 use Rattle.mem_tree.proofs.RunLemmas.{firsts, range_run}
-use Rattle.mem_tree.proofs.RunLoops.{keys_are, next_run, below_more, below_ends, not_missing, all_below, nothing_left}
+use Rattle.mem_tree.proofs.RunLoops.{next_run, below_more, below_ends, not_missing, all_below, nothing_left}
 use Rattle.mem_tree.proofs.slots.SlotMap.below.Goals.{in-Some+in-None, in-Some+in-Some-2+then-is_none, in_default}
 use Rattle.mem_tree.proofs.slots.SlotMap.below.Goals as goal
 

@@ -1,4 +1,4 @@
-use Rattle.std.proofs.Common.{◌≡◌, ◌++◌, map}
+use Rattle.std.proofs.Common.{◌≡◌}
 use Rattle.std.specs.List.{list_any}
 use Rattle.mem_tree.specs.Slots.{placed}
 use Rattle.mem_tree.proofs.RunLemmas.{Run, firsts, is_child}

@@ -1,4 +1,4 @@
-use Rattle.std.proofs.Common.{◌∙◌, sym, ap}
+use Rattle.std.proofs.Common.{◌∙◌, ap}
 use Rattle.std.specs.FinMap as fin
 use Rattle.mem_tree.proofs.KeptMaps.{slot_removed, slot_sorted, get_slot}
 use Rattle.mem_tree.specs.Slots.{Slots}

@@ -1,15 +1,18 @@
-use Rattle.std.proofs.Common.{subst, sym, ap, ◌∙◌}
+use Rattle.std.proofs.Common.{subst, sym}
 use Rattle.dired_text.specs.Paths.{Names, parent}
 use Rattle.tree_core.specs.FileTree.{IsAbsent, IsDir}
 use Rattle.mem_tree.specs.Slots.{Slots, Files, Counted, ParentsStand, tree_in}
+use Rattle.mem_tree.specs.Stores.{times_of, tree_of}
 use Rattle.mem_tree.proofs.TreeOf.{slot_absent}
 use Rattle.mem_tree.proofs.StoreLemmas.{either, parents_added}
 use Rattle.mem_tree.proofs.store.Store.add.Goals as goal
 
 pub put_node-requires-clause-absent : goal.put_node-requires-clause-absent
+unfolding tree_of times_of
 put_node-requires-clause-absent c = slot_absent c.args.self.now.slots c.args.self.now.files c.names.result.now (subst (λ (p : Names). IsAbsent (tree_in c.args.self.now.slots c.args.self.now.files) p) (sym c.names.ensures.names) c.requires.absent)
 
 pub invariant_of-self : goal.invariant_of-self
+unfolding tree_of times_of
 invariant_of-self c = either c.put_node.result c.put_node.ensures.ok c.put_node.ensures.err
     (λ keep. record {
       counted = keep.counted;

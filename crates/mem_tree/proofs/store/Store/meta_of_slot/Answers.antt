@@ -1,9 +1,11 @@
 use Rattle.std.proofs.Common.{◌≡◌, ◌∙◌, ap, w64, to_z, of_z, rules}
 use Rattle.std.specs.Option.{unwrap_or}
+use Rattle.mem_tree.specs.Stores.{times_of, tree_of}
 use Rattle.mem_tree.proofs.StoreLooks.{meta_shown}
 use Rattle.mem_tree.proofs.store.Store.meta_of_slot.Goals as goal
 
 pub returns : goal.returns
+unfolding tree_of times_of
 returns c =
     let t : to_z w64 (of_z w64 c.args.slot.now.mtime) ≡ c.args.slot.now.mtime = search rules in
     (λ i. record { kind = c.kind.result; mode = c.mode.result; links = c.links.result; owner = c.in_ok-copy_of.field-0; group = c.in_ok-copy_of-2.field-0; size = c.size.result; mtime = t i; number = c.unwrap_or.result; target = c.in_ok-target.field-0 })

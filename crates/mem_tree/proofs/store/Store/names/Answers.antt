@@ -1,4 +1,4 @@
-use Rattle.std.proofs.Common.{◌∙◌, ap, sym, take, map, Bor}
+use Rattle.std.proofs.Common.{◌∙◌, ap, sym, map, Bor}
 use Rattle.std.proofs.lemmas.List.{take_all}
 use Rattle.std.specs.Option.{option_copied}
 use Rattle.std.specs.FinMap.{get, keys}
@@ -6,11 +6,13 @@ use Rattle.std.specs.List.{filter, filter_map}
 use Rattle.std.specs.Vec.{vec_items}
 use Rattle.dired_text.specs.Paths.{Names, is_below}
 use Rattle.tree_core.specs.Fields.{child_name}
+use Rattle.mem_tree.specs.Stores.{times_of, tree_of}
 use Rattle.mem_tree.proofs.StoreLooks.{names_below, no_names_none, name_more, name_passed, none_by}
 use Rattle.mem_tree.proofs.store.Store.names.Goals.{in-Some+in_ok-copy+in_ok-push, in_default, then-is_some+in_ok-below+else-loop-names-test, else-is_some}
 use Rattle.mem_tree.proofs.store.Store.names.Goals as goal
 
 pub loop-names-preserved : goal.loop-names-preserved
+unfolding tree_of times_of
 loop-names-preserved c = elim c.match-child_name.branch [
   | in-Some+in_ok-copy+in_ok-push w ↦
       name_more c.args.path.now c.deref-names-items.result.now c.loop-names.names-index c.names-item.result c.loop-names-test.true c.names-item.is c.loop-names.found.items c.match-child_name.found.items w.in-Some.name.now w.in_ok-copy.field-0
@@ -21,6 +23,7 @@ loop-names-preserved c = elim c.match-child_name.branch [
 ]
 
 pub returns : goal.returns
+unfolding tree_of times_of
 returns c = elim c.if-is_some.branch [
   | then-is_some+in_ok-below+else-loop-names-test w ↦
       ap vec_items w.found-is ∙ w.loop-names.invariant
