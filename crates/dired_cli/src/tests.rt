@@ -3,9 +3,9 @@ ghost use Rattle.tree_core.specs.History.{IsDurable};
 
 use crate::{Status, run};
 use dired_text::{Bytes, MemShelf, MemSink, Memory, Name, Path, Shelf, Sink, Text};
+use mem_tree::{Entry, MemTree};
 use std::alloc::Global;
 use std::test::Fail;
-use mem_tree::{Entry, MemTree};
 use tree_core::{Kind, Node, Tree};
 
 const BEFORE: &str =

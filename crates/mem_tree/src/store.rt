@@ -101,10 +101,8 @@ impl Store {
 
     /// Whether nothing stands there, and a directory above it.
     pub fn can_make(&self, path: &Path) -> bool
-        ensures can {
-            result ≡ (not (is_some (get (tree_of self.now) path.now))
-                && is_dir_node (get (tree_of self.now) (parent_of path.now)))
-        }
+        ensures can { result ≡ (not (is_some (get (tree_of self.now) path.now))
+            && is_dir_node (get (tree_of self.now) (parent_of path.now))) }
         ensures named { AreNames path.now }
     {
         let names = path.names();
