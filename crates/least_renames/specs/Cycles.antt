@@ -1,0 +1,27 @@
+-- Cycles of edits, each to the path of the next one.
+use Rattle.std.specs.Prelude.{◌≡◌, true, List, [], ◌∷◌, ◌++◌, map, ◌||◌, Some, Contains}
+use Rattle.std.specs.List.{flat_map}
+use Rattle.dired_text.specs.Paths.{Names}
+use Rattle.edit_words.specs.declared.row.Row.{Row}
+use Rattle.edit_words.specs.Place.{IsAbove}
+
+-- The new path of each is the source of the next one, and that of the last the source of the first.
+abbrev pub IsCycle : List Row → Type 0
+IsCycle [] = ⊥
+IsCycle (r ∷ rs) = map (λ (o : Row). o.to) (r ∷ rs) ≡ map (λ (o : Row). o.source) (rs ++ r ∷ [])
+
+-- nothing stands twice in it
+abbrev pub HasNoRepeats : {X : Type 0} → List X → Type 0
+HasNoRepeats [] = Unit {0}
+HasNoRepeats (x ∷ xs) = (Contains xs x → ⊥) × HasNoRepeats xs
+
+-- the edits of some cycles
+abbrev pub edits_of : List (List Row) → List Row
+edits_of cycles = flat_map (λ (c : List Row). c) cycles
+
+-- Cycles of some edits, no edit twice in them, and no cycle left: each has an edit in common with one of them.
+pub record AreCycles (Moves : Row → Type 0) (cycles : List (List Row)) : Type 0 where
+  pub each : (c : List Row) → Contains cycles c → IsCycle c
+  pub move : (r : Row) → Contains (edits_of cycles) r → Moves r
+  pub once : HasNoRepeats (edits_of cycles)
+  pub all : (c : List Row) → IsCycle c → ((r : Row) → Contains c r → Moves r) → (r : Row) × Contains c r × Contains (edits_of cycles) r
