@@ -1,2 +1,3 @@
 pub mod MovedLemmas
 pub mod RenameFacts
+pub mod CycleLemmas
