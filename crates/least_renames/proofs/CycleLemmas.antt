@@ -86,9 +86,11 @@ next_in (r ∷ rs) cycle x c = let next = next_on r rs r (trail_of r rs r cycle)
     within y (inl later) = contains_tail r y rs later
     within y (inr same) = subst (Contains (r ∷ rs)) same (contains_head r rs)
 
--- Edits of different sources that all have a new path.
+-- Edits of different sources with different new paths.
 pub record Moving (Moves : Row → Type 0) : Type 0 where
+  pub from : (r : Row) → Moves r → (p : Names) × (r.source ≡ Some p)
   pub goes : (r : Row) → Moves r → (p : Names) × (r.to ≡ Some p)
+  pub new_paths : (r o : Row) (p : Names) → Moves r → Moves o → r.to ≡ Some p → o.to ≡ Some p → r ≡ o
   pub sources : (r o : Row) (p : Names) → Moves r → Moves o → r.source ≡ Some p → o.source ≡ Some p → r ≡ o
 
 -- two cycles with an edit in common have the same edits

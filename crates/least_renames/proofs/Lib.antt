@@ -1,3 +1,5 @@
+pub mod ListLemmas
 pub mod MovedLemmas
 pub mod RenameFacts
 pub mod CycleLemmas
+pub mod WalkLemmas
