@@ -12,7 +12,7 @@ use Rattle.edit_words.specs.Rows.{is_same_path}
 use Rattle.edit_words.specs.Refusals.{total}
 use Rattle.edit_words.proofs.SameLemmas.{same_path, same_itself}
 use Rattle.edit_words.proofs.FindLemmas.{contains_head, contains_tail, contains_map_from}
-use Rattle.least_renames.specs.Least.{Renames, CanRenameAll, carried}
+use Rattle.plan_moves.specs.Least.{Renames, CanRenameAll, carried}
 use Rattle.least_renames.specs.Cycles.{HasNoRepeats}
 use Rattle.least_renames.proofs.MovedLemmas.{moved-by, stands_moved, moved_apart, rest-push}
 

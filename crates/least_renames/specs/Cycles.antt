@@ -4,6 +4,7 @@ use Rattle.std.specs.List.{flat_map}
 use Rattle.dired_text.specs.Paths.{Names}
 use Rattle.edit_words.specs.declared.row.Row.{Row}
 use Rattle.edit_words.specs.Place.{IsAbove}
+use Rattle.plan_moves.specs.Plan.{is_moving}
 
 -- The new path of each is the source of the next one, and that of the last the source of the first.
 abbrev pub IsCycle : List Row → Type 0
@@ -25,3 +26,15 @@ pub record AreCycles (Moves : Row → Type 0) (cycles : List (List Row)) : Type 
   pub move : (r : Row) → Contains (edits_of cycles) r → Moves r
   pub once : HasNoRepeats (edits_of cycles)
   pub all : (c : List Row) → IsCycle c → ((r : Row) → Contains c r → Moves r) → (r : Row) × Contains c r × Contains (edits_of cycles) r
+
+-- a moving edit of some changes
+abbrev pub IsMovingIn : List Row → Row → Type 0
+IsMovingIn rs r = Contains rs r × (is_moving r ≡ true)
+
+-- the source of a moving edit, or of a link that gets another target
+abbrev pub IsLeft : List Row → Names → Type 0
+IsLeft rs p = (r : Row) × Contains rs r × (r.source ≡ Some p) × ((is_moving r || r.retargets) ≡ true)
+
+-- Changes are flat where no such source is strictly below another one.
+abbrev pub AreFlat : List Row → Type 0
+AreFlat rs = (p q : Names) → IsLeft rs p → IsLeft rs q → IsAbove p q → ⊥
