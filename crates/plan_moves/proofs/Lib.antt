@@ -1,0 +1,5 @@
+pub mod FilterLemmas
+pub mod Order
+pub mod Number
+pub mod AtMost
+pub mod Fuel
