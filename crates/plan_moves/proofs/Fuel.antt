@@ -1,9 +1,8 @@
 -- Two turns for each change that waits are fuel enough: the function is the relation.
-use Rattle.std.proofs.Common.{◌≡◌, ◌⊎◌, inl, inr, ℕ, zero, suc, ◌+◌, ◌≤◌, Bool, true, false, cond, not, List, [], ◌∷◌, filter, length, refl, sym, ◌∙◌, ap, subst, arith, Option, Some, None, if◌then◌else◌}
-use Rattle.std.specs.Prelude.{Contains, ◌||◌}
+use Rattle.std.proofs.Common.{◌≡◌, ◌⊎◌, inl, inr, ℕ, zero, suc, ◌+◌, ◌≤◌, Bool, true, false, not, List, [], ◌∷◌, filter, length, refl, sym, ◌∙◌, ap, subst, arith, Option, Some, None, if◌then◌else◌}
+use Rattle.std.specs.Prelude.{◌||◌}
 use Rattle.std.specs.List.{list_any}
-use Rattle.std.proofs.lemmas.Bool.{cond-true, cond-false, cases_Bool, or_parts, or_cases, false_from_ne_true, not_from_true}
-use Rattle.dired_text.specs.Paths.{Names}
+use Rattle.std.proofs.lemmas.Bool.{cond-true, cond-false, cases_Bool, false_from_ne_true, not_from_true}
 use Rattle.commit_steps.specs.declared.step.Step.{Step}
 use Rattle.plan_moves.specs.Waiting.{Waiting, is_ready, unready, deepest, put_away, NoneReady, knots_by, knots_from, knots, Knots, none, ready, stuck, HasDifferentLines, at_sources}
 use Rattle.plan_moves.specs.Moves.{Moves, Spots}

@@ -3,3 +3,4 @@ pub mod Order
 pub mod Number
 pub mod AtMost
 pub mod Fuel
+pub mod StepCount

@@ -8,7 +8,7 @@ use Rattle.tree_core.specs.declared.node.Node.TheVariants.{Dir}
 use Rattle.tree_core.specs.FileTree.{FileTree, IsTree}
 use Rattle.edit_words.specs.declared.row.Row.{Row}
 use Rattle.edit_words.specs.declared.row.Route.{Route}
-use Rattle.edit_words.specs.declared.row.Route.TheVariants.{Stays, Named, Sent}
+use Rattle.edit_words.specs.declared.row.Route.TheVariants.{Stays, Sent}
 use Rattle.edit_words.specs.Place.{routed, place, IsAbove}
 use Rattle.edit_words.specs.Rows.{row_from, route_to, written, is_same_path, last_name}
 use Rattle.edit_words.specs.Edited.{Entries, IsPlaced, placed_tree, is_fresh, missing}

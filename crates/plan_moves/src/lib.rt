@@ -3,4 +3,4 @@
 
 mod laws;
 
-pub use laws::{knots_at_most, planned};
+pub use laws::{knots_at_most, planned, plans_have_the_number_of_steps};
