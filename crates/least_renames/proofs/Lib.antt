@@ -3,3 +3,4 @@ pub mod MovedLemmas
 pub mod RenameFacts
 pub mod CycleLemmas
 pub mod WalkLemmas
+pub mod StateLemmas
