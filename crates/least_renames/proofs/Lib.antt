@@ -4,3 +4,4 @@ pub mod RenameFacts
 pub mod CycleLemmas
 pub mod WalkLemmas
 pub mod StateLemmas
+pub mod KnotLemmas
