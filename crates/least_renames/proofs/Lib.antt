@@ -5,3 +5,5 @@ pub mod CycleLemmas
 pub mod WalkLemmas
 pub mod StateLemmas
 pub mod KnotLemmas
+pub mod FlatLemmas
+pub mod CycleSums
