@@ -7,3 +7,4 @@ pub mod StateLemmas
 pub mod KnotLemmas
 pub mod FlatLemmas
 pub mod CycleSums
+pub mod LeastLemmas
