@@ -8,3 +8,4 @@ pub mod KnotLemmas
 pub mod FlatLemmas
 pub mod CycleSums
 pub mod LeastLemmas
+pub mod PlanLemmas

@@ -1,4 +1,7 @@
-//! No list of renames that does what flat edits do is shorter than their plan, and the knots of flat changes are their cycles.
+//! The least number of renames: the knots of flat changes are their cycles, and no list of renames does with fewer what edits in one
+//! directory do.
 #![tactic(auto)]
 
 mod laws;
+
+pub use laws::{knots_are_cycles, no_list_of_renames_is_shorter};
