@@ -1,12 +1,10 @@
 -- Cycles: each has a next one, and two with an edit in common have the same edits.
-use Rattle.std.proofs.Common.{◌≡◌, ◌⊎◌, inl, inr, ℕ, ◌+◌, List, [], ◌∷◌, ◌++◌, map, length, refl, sym, ◌∙◌, ap, subst, arith, Option, Some, None, Contains}
-use Rattle.std.specs.List.{flat_map}
-use Rattle.std.proofs.lemmas.Grind.{flat_map-append}
+use Rattle.std.proofs.Common.{◌≡◌, ◌⊎◌, inl, inr, List, [], ◌∷◌, ◌++◌, map, refl, sym, ◌∙◌, ap, subst, Option, Some, Contains}
 use Rattle.std.proofs.lemmas.List.Elements.{Contains-append_cases, Contains-append_left, Contains-append_right}
 use Rattle.dired_text.specs.Paths.{Names}
 use Rattle.edit_words.specs.declared.row.Row.{Row}
 use Rattle.edit_words.proofs.FindLemmas.{contains_head, contains_tail, contains_none, contains_cases}
-use Rattle.least_renames.specs.Cycles.{IsCycle, HasNoRepeats, edits_of, AreCycles}
+use Rattle.least_renames.specs.Cycles.{IsCycle, edits_of}
 
 -- each of these goes to the path of the next one, and the last to that of `end`
 abbrev pub Trail : Row → List Row → Row → Type 0

@@ -1,5 +1,5 @@
 -- How often the paths of edits in one directory are renamed themselves: each once, and on each cycle once more.
-use Rattle.std.proofs.Common.{◌≡◌, ◌≢◌, ◌⊎◌, inl, inr, ℕ, ◌+◌, ◌<◌, ◌≤◌, ◌==◌, Bool, true, false, not, List, [], ◌∷◌, ◌++◌, map, filter, length, refl, sym, ◌∙◌, ap, subst, arith, length-append, Option, Some, None, Contains}
+use Rattle.std.proofs.Common.{◌≡◌, ◌≢◌, ◌⊎◌, inl, inr, ℕ, ◌+◌, ◌<◌, ◌≤◌, ◌==◌, Bool, true, false, not, List, [], ◌∷◌, ◌++◌, map, filter, length, refl, sym, ◌∙◌, ap, subst, arith, length-append, Option, Some, Contains}
 use Rattle.std.specs.Prelude.{unwrap_or}
 use Rattle.std.specs.List.{list_any}
 use Rattle.std.proofs.lemmas.Bool.{cases_Bool, cases_lt, not-true, not_from_false, eqb-true, eq-eqb}
@@ -14,7 +14,7 @@ use Rattle.plan_moves.specs.Least.{Renames, CanRenameAll, carried}
 use Rattle.least_renames.specs.Cycles.{IsCycle, HasNoRepeats, edits_of}
 use Rattle.least_renames.proofs.ListLemmas.{no_repeats_joined, no_repeats_filter, no_repeats_map, fits_in, total-append}
 use Rattle.least_renames.proofs.RenameFacts.{own, own_sum, at_least_once, Before, twice, first, before_or_after}
-use Rattle.least_renames.proofs.CycleLemmas.{Trail, trail_of, edits_from, cycle_of}
+use Rattle.least_renames.proofs.CycleLemmas.{Trail, trail_of}
 use Rattle.least_renames.proofs.WalkLemmas.{source_path}
 
 -- ---- sums

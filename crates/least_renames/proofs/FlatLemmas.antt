@@ -1,6 +1,6 @@
 -- What waits at first of flat changes, and their cycles.
-use Rattle.std.proofs.Common.{◌≡◌, ◌⊎◌, inl, inr, ℕ, ◌+◌, ◌<◌, ◌≤◌, Bool, true, false, cond, not, ◌&&◌, ◌||◌, List, [], ◌∷◌, length, refl, sym, ◌∙◌, ap, subst, arith, Option, Some, None, is_some, Contains}
-use Rattle.std.proofs.lemmas.Bool.{cond-true, cond-false, cases_Bool, and_parts, and_from, not-true, not_from_true, not_from_false, or_left, or_right}
+use Rattle.std.proofs.Common.{◌≡◌, ◌⊎◌, inl, inr, ◌≤◌, Bool, true, false, not, ◌||◌, List, [], ◌∷◌, length, refl, sym, ◌∙◌, ap, subst, arith, Some, is_some, Contains}
+use Rattle.std.proofs.lemmas.Bool.{cond-true, cond-false, cases_Bool, and_parts, and_from, not-true, not_from_false, or_right}
 use Rattle.dired_text.specs.Paths.{Names}
 use Rattle.tree_core.specs.declared.changes.Changes.{Changes}
 use Rattle.tree_core.specs.FileTree.{FileTree, IsFile}
@@ -16,7 +16,7 @@ use Rattle.plan_moves.proofs.Order.{Counts, counts_from_knots}
 use Rattle.plan_moves.proofs.Number.{own_lines}
 use Rattle.plan_moves.proofs.Fuel.{knots_are}
 use Rattle.plan_moves.proofs.StepCount.{waiting_different}
-use Rattle.least_renames.specs.Cycles.{edits_of, AreCycles, IsMovingIn, AreFlat}
+use Rattle.least_renames.specs.Cycles.{AreCycles, IsMovingIn, AreFlat}
 use Rattle.least_renames.proofs.StateLemmas.{WaitsHere, AreFlatRows, AreWaiting}
 use Rattle.least_renames.proofs.KnotLemmas.{alike_cycles, counted, found}
 

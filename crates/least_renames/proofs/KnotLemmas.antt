@@ -1,22 +1,18 @@
 -- The knots of flat changes are their cycles.
-use Rattle.std.proofs.Common.{◌≡◌, ◌⊎◌, inl, inr, ℕ, ◌+◌, ◌==◌, Bool, true, false, cond, not, ◌&&◌, ◌||◌, List, [], ◌∷◌, ◌++◌, map, filter, length, refl, sym, ◌∙◌, ap, subst, arith, length-append, Option, Some, None, is_some, Contains}
-use Rattle.std.specs.List.{list_any, flat_map}
+use Rattle.std.proofs.Common.{◌≡◌, ◌⊎◌, inl, inr, ℕ, ◌+◌, ◌==◌, true, false, not, List, [], ◌∷◌, ◌++◌, map, length, refl, sym, ◌∙◌, ap, subst, arith, length-append, Some, Contains}
+use Rattle.std.specs.List.{list_any}
 use Rattle.std.proofs.lemmas.Grind.{flat_map-append}
-use Rattle.std.proofs.lemmas.Bool.{cond-true, cond-false, cases_Bool, not_from_true, not_from_false, and_from, and_parts, not-true, false_from_ne_true, eqb-true, eq-eqb, or_parts, or_from, or_left, or_right}
+use Rattle.std.proofs.lemmas.Bool.{cases_Bool, not_from_false, false_from_ne_true, eqb-true, eq-eqb}
 use Rattle.std.proofs.lemmas.List.Elements.{Contains-append_right, Contains-append_left, Contains-append_cases}
 use Rattle.dired_text.specs.Paths.{Names}
 use Rattle.edit_words.specs.declared.row.Row.{Row}
-use Rattle.edit_words.specs.Rows.{written}
-use Rattle.edit_words.specs.Edited.{is_fresh}
 use Rattle.edit_laws.proofs.ListLemmas.{contains_head, contains_tail, contains_none, contains_cases, contains_filter, filter_parts, any_parts, any_from, contains_map}
 use Rattle.edit_laws.proofs.RowLemmas.{written-to}
-use Rattle.plan_moves.specs.Waiting.{Waiting, waiting, knots, is_ready, NoneReady, without, put_away}
-use Rattle.plan_moves.specs.Plan.{is_moving}
-use Rattle.plan_moves.proofs.Order.{Counts, over, carry, knot, counts_from_knots}
-use Rattle.plan_moves.proofs.Number.{own_lines, none_left, deepest-contains}
+use Rattle.plan_moves.specs.Waiting.{Waiting, is_ready, NoneReady, without, put_away}
+use Rattle.plan_moves.proofs.Order.{Counts, over, carry, knot}
+use Rattle.plan_moves.proofs.Number.{none_left, deepest-contains}
 use Rattle.plan_moves.proofs.AtMost.{deepest-here}
-use Rattle.plan_moves.proofs.Fuel.{knots_are}
-use Rattle.least_renames.specs.Cycles.{IsCycle, HasNoRepeats, edits_of, AreCycles, IsMovingIn}
+use Rattle.least_renames.specs.Cycles.{IsCycle, HasNoRepeats, edits_of, AreCycles}
 use Rattle.least_renames.proofs.ListLemmas.{no_repeats_joined, no_repeats_without, no_repeats_apart, no_repeats_back, split_at}
 use Rattle.least_renames.proofs.CycleLemmas.{next_in, cycles_meet, edits_from, cycle_of}
 use Rattle.least_renames.proofs.WalkLemmas.{CycleThrough, cycle_through, source_path}

@@ -1,20 +1,19 @@
 -- Edits in one directory: no list of renames does with fewer what they do.
-use Rattle.std.proofs.Common.{◌≡◌, ◌≢◌, ◌⊎◌, inl, inr, ℕ, ◌+◌, ◌<◌, ◌≤◌, Bool, true, false, List, [], ◌∷◌, ◌++◌, length, refl, sym, ◌∙◌, ap, subst, arith, length-append, Option, Some, None, is_some, IsTrue, Contains}
+use Rattle.std.proofs.Common.{◌≡◌, ℕ, ◌+◌, ◌<◌, ◌≤◌, List, [], ◌∷◌, ◌++◌, length, refl, sym, ◌∙◌, ap, subst, arith, length-append, Option, Some, Contains}
 use Rattle.std.proofs.lemmas.Option.{none-some, same_Some}
 use Rattle.std.proofs.lemmas.Bool.{cond-true}
 use Rattle.std.proofs.lemmas.List.Elements.{All-contains}
 use Rattle.dired_text.specs.Paths.{Names, parent}
 use Rattle.dired_text.proofs.PathLemmas.{parent-push}
 use Rattle.commit_steps.specs.declared.step.Step.{Step}
-use Rattle.tree_core.specs.declared.edit.Edit.{Edit}
 use Rattle.tree_core.specs.declared.changes.Changes.{Changes}
 use Rattle.tree_core.specs.declared.changes.Changes.TheVariants.{Edits, Removals, Creations}
 use Rattle.tree_core.specs.FileTree.{FileTree, IsTree, IsFile, Stands}
 use Rattle.tree_core.proofs.TreeLemmas.{dir_stands}
 use Rattle.edit_words.specs.declared.row.Row.{Row}
 use Rattle.edit_words.specs.declared.row.Route.{Route}
-use Rattle.edit_words.specs.declared.row.Route.TheVariants.{Stays, Named, Sent}
-use Rattle.edit_words.specs.Place.{place, routed, IsAbove}
+use Rattle.edit_words.specs.declared.row.Route.TheVariants.{Named, Sent}
+use Rattle.edit_words.specs.Place.{place, routed}
 use Rattle.edit_words.specs.Rows.{rows, edit_row, removal_row, creation_row, is_same_path, row_from, route_to, route_by, route_of, last_name}
 use Rattle.edit_words.specs.WellFormed.{IsWellFormed, CanBeAsked, AreLawful, IsEdit, LinesRise}
 use Rattle.edit_words.proofs.SameLemmas.{same_itself}
@@ -28,7 +27,7 @@ use Rattle.plan_moves.specs.Moves.{Moves, fresh_spots}
 use Rattle.plan_moves.specs.Least.{Renames, CanRenameAll, carried, IsFlatIn}
 use Rattle.plan_moves.proofs.Fuel.{number}
 use Rattle.plan_moves.proofs.StepCount.{waiting_different}
-use Rattle.least_renames.specs.Cycles.{HasNoRepeats, edits_of, AreCycles, IsMovingIn, IsLeft, AreFlat}
+use Rattle.least_renames.specs.Cycles.{HasNoRepeats, AreCycles, IsMovingIn, IsVacated, AreFlat}
 use Rattle.least_renames.proofs.FlatLemmas.{waiting_short, knots_counted, cycles_found}
 use Rattle.least_renames.proofs.CycleSums.{Shifts, least_by_cycles}
 
@@ -47,19 +46,20 @@ new_path_differs is_file (Creations creations) lawful r p c source to = let e = 
 
 -- no path of a directory is above another one
 pub one_directory_is_flat : (dir : Names) (t : FileTree) (rs : List Row) → IsFlatIn dir t rs → AreFlat rs
-one_directory_is_flat dir t rs flat p q left_p left_q above =
-    let a = in_dir p left_p in
-    let b = in_dir q left_q in
+one_directory_is_flat dir t rs flat p q vacated_p vacated_q above =
+    let a = in_dir p vacated_p in
+    let b = in_dir q vacated_q in
     let long_p = ap length a.1 ∙ length-append dir (a.0 ∷ []) in
     let long_q = ap length b.1 ∙ length-append dir (b.0 ∷ []) in
     let more = ap length above.2 ∙ length-append p (above.0 ∷ above.1) in
     omega arith
   where
-    in_dir : (p : Names) → IsLeft rs p → (n : List ℕ) × (p ≡ dir ++ n ∷ [])
+    in_dir : (p : Names) → IsVacated rs p → (n : List ℕ) × (p ≡ dir ++ n ∷ [])
     in_dir p (r, listed, source, moves) = let parts = flat.renames r listed in (parts.0, same_Some p (dir ++ parts.0 ∷ []) (sym source ∙ parts.2))
 
-module _ (t : FileTree) (changes : Changes) (tree : IsTree t) (asked : CanBeAsked (IsFile t) changes) (fine : IsWellFormed t (rows changes))
-    (dir : Names) (flat : IsFlatIn dir t (rows changes)) where
+-- The renames begin with a tree in which all paths of the old one stand.
+module _ (t start : FileTree) (changes : Changes) (tree : IsTree t) (asked : CanBeAsked (IsFile t) changes) (fine : IsWellFormed t (rows changes))
+    (start_tree : IsTree start) (more : (p : Names) → Stands t p → Stands start p) (dir : Names) (flat : IsFlatIn dir t (rows changes)) where
   module _ (others : Renames) (does : (p : Names) → Stands t p → carried others p ≡ place (route_of (rows changes)) p) where
     -- where the path of an edit goes
     goes_to : (r : Row) (n m : List ℕ) → Contains (rows changes) r → r.source ≡ Some (dir ++ n ∷ []) → r.to ≡ Some (dir ++ m ∷ [])
@@ -81,7 +81,7 @@ module _ (t : FileTree) (changes : Changes) (tree : IsTree t) (asked : CanBeAske
         named = cond-true (is_same_path (parent (dir ++ n ∷ [])) (parent (dir ++ m ∷ []))) (Named (last_name (dir ++ m ∷ []))) (Sent (dir ++ m ∷ []))
             (ap (λ (p : Names). is_same_path p (parent (dir ++ m ∷ []))) (parent-push dir n) ∙ ap (is_same_path dir) (parent-push dir m) ∙ same_itself dir)
 
-    shifts : Stands t dir → (r : Row) → Contains (rows changes) r → Shifts t others dir r
+    shifts : Stands t dir → (r : Row) → Contains (rows changes) r → Shifts start others dir r
     shifts stands_dir r c =
         let parts = flat.renames r c in
         let stands = (rows_are t changes asked fine).standing r (dir ++ parts.0 ∷ []) c parts.2 in
@@ -91,22 +91,22 @@ module _ (t : FileTree) (changes : Changes) (tree : IsTree t) (asked : CanBeAske
           source = parts.2;
           to = parts.3;
           other = λ same. new_path_differs (IsFile t) changes asked.lawful r (dir ++ parts.0 ∷ []) c parts.2 (parts.3 ∙ ap (λ (k : List ℕ). Some (dir ++ k ∷ [])) (sym same));
-          stands = stands;
+          stands = more (dir ++ parts.0 ∷ []) stands;
           goes = does (dir ++ parts.0 ∷ []) stands ∙ goes_to r parts.0 parts.1 c parts.2 parts.3 ∙ ap (λ (p : Names). p ++ parts.1 ∷ []) (sym (does dir stands_dir));
         }
 
-    lower : CanRenameAll t others → (r : Row) → Contains (rows changes) r → (cycles : List (List Row)) → AreCycles (IsMovingIn (rows changes)) cycles → length (rows changes) + length cycles ≤ length others
+    lower : CanRenameAll start others → (r : Row) → Contains (rows changes) r → (cycles : List (List Row)) → AreCycles (IsMovingIn (rows changes)) cycles → length (rows changes) + length cycles ≤ length others
     lower can r c cycles all =
         let are = rows_are t changes asked fine in
         let parts = flat.renames r c in
         let stands_dir : Stands t dir = dir_stands _ (tree.parents dir parts.0 (are.standing r (dir ++ parts.0 ∷ []) c parts.2)) in
-        least_by_cycles t others tree can dir stands_dir (rows changes) (rows_once (rows changes) asked.lines) are.lines are.sources (shifts stands_dir)
+        least_by_cycles start others start_tree can dir (more dir stands_dir) (rows changes) (rows_once (rows changes) asked.lines) are.lines are.sources (shifts stands_dir)
         cycles all.each (λ o d. (all.move o d).0) all.once
 
   moves_counted : (moves : List Step) → Moves 0 (fresh_spots 0 (rows changes)) (waiting (rows changes)) moves → length moves ≡ length (waiting (rows changes)) + knots (waiting (rows changes))
   moves_counted moves run = number 0 (fresh_spots 0 (rows changes)) (waiting (rows changes)) moves (waiting_different (rows changes) asked.lines) run
 
-  pub moves_are_least : (moves : List Step) → Moves 0 (fresh_spots 0 (rows changes)) (waiting (rows changes)) moves → (others : Renames) → CanRenameAll t others
+  pub moves_are_least : (moves : List Step) → Moves 0 (fresh_spots 0 (rows changes)) (waiting (rows changes)) moves → (others : Renames) → CanRenameAll start others
       → ((p : Names) → Stands t p → carried others p ≡ place (route_of (rows changes)) p) → length moves ≤ length others
   moves_are_least moves run others can does = by_rows (rows changes) refl
     where

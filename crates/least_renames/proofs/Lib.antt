@@ -9,3 +9,4 @@ pub mod FlatLemmas
 pub mod CycleSums
 pub mod LeastLemmas
 pub mod PlanLemmas
+pub mod LawLemmas

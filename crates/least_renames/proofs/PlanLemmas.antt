@@ -1,8 +1,8 @@
 -- The steps of a plan of edits in one directory, without victims, are just its moves.
-use Rattle.std.proofs.Common.{◌≡◌, ◌⊎◌, inl, inr, ℕ, ◌+◌, Bool, true, false, not, ◌&&◌, ◌||◌, List, [], ◌∷◌, ◌++◌, map, filter, length, refl, sym, ◌∙◌, ap, subst, arith, Option, Some, None, is_some, IsTrue, Contains}
+use Rattle.std.proofs.Common.{◌≡◌, Bool, true, false, not, ◌&&◌, List, [], ◌∷◌, ◌++◌, map, filter, length, refl, sym, ◌∙◌, ap, arith, Option, Some, None, is_some, Contains}
 use Rattle.std.specs.Prelude.{count_by, if◌then◌else◌}
 use Rattle.std.specs.List.{flat_map, filter_map, list_any, cons_option}
-use Rattle.std.proofs.lemmas.Bool.{cond-true, cond-false, cases_Bool, or_left, or_from, and_parts, false_from_ne_true, not_from_true}
+use Rattle.std.proofs.lemmas.Bool.{cond-false, or_left, or_from, and_parts, false_from_ne_true, not_from_true}
 use Rattle.std.proofs.lemmas.Option.{none-some}
 use Rattle.std.proofs.lemmas.List.{append-nil}
 use Rattle.std.proofs.lemmas.List.Sums.{length-filter}
@@ -13,18 +13,16 @@ use Rattle.commit_steps.specs.declared.step.Step.TheVariants.{MakeDir}
 use Rattle.tree_core.specs.declared.edit.Shown.{Shown}
 use Rattle.tree_core.specs.declared.changes.Changes.{Changes}
 use Rattle.tree_core.specs.declared.changes.Changes.TheVariants.{Edits, Removals, Creations}
-use Rattle.tree_core.specs.FileTree.{FileTree, Stands}
+use Rattle.tree_core.specs.FileTree.{FileTree}
 use Rattle.edit_words.specs.declared.row.Row.{Row}
 use Rattle.edit_words.specs.Rows.{rows, edit_row, removal_row, creation_row, is_same_path, is_source, is_written, is_victim, is_elsewhere, is_elsewhere_of}
-use Rattle.edit_words.specs.Sight.{Sight, sight_of, number_at}
+use Rattle.edit_words.specs.Sight.{sight_of, number_at}
 use Rattle.edit_words.specs.Refusals.{victim_at, victim_of, missing_above}
 use Rattle.edit_words.proofs.SameLemmas.{same_itself}
 use Rattle.edit_words.proofs.RefusalLemmas.{stands_decides}
 use Rattle.edit_rules.specs.Plans.{ModeChange, mode_change_by, mode_change_of, mode_changes, names_place}
 use Rattle.edit_laws.proofs.ListLemmas.{contains_head, contains_tail, map_parts}
 use Rattle.edit_laws.proofs.RowLemmas.{is_written-from}
-use Rattle.plan_moves.specs.Waiting.{waiting}
-use Rattle.plan_moves.specs.Moves.{Moves, fresh_spots}
 use Rattle.plan_moves.specs.Plan.{IsPlan, listed, is_given_up, held_by, held_paths, holds, mode_step}
 use Rattle.plan_moves.specs.Least.{IsFlatIn}
 

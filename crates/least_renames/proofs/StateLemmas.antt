@@ -1,9 +1,7 @@
 -- What waits of flat changes: whatever isn't ready goes to the path of another one that waits at its source.
-use Rattle.std.proofs.Common.{◌≡◌, ◌⊎◌, inl, inr, ℕ, ◌==◌, Bool, true, false, cond, not, ◌&&◌, ◌||◌, List, [], ◌∷◌, ◌++◌, map, filter, refl, sym, ◌∙◌, ap, subst, append_assoc, Option, Some, None, is_some, if◌then◌else◌, Contains}
-use Rattle.std.specs.Prelude.{unwrap_or}
+use Rattle.std.proofs.Common.{◌≡◌, ◌⊎◌, inl, inr, ℕ, ◌==◌, Bool, true, false, not, ◌&&◌, ◌||◌, List, [], ◌∷◌, ◌++◌, filter, refl, sym, ◌∙◌, ap, subst, append_assoc, Option, Some, None, is_some, Contains}
 use Rattle.std.specs.List.{list_any}
-use Rattle.std.proofs.lemmas.Bool.{cond-true, cond-false, cases_Bool, and_parts, and_from, or_cases, or_left, or_right, or_from, not-true, not-false, not_from_true, not_from_false, false_from_ne_true, eqb-true, eq-eqb}
-use Rattle.std.proofs.lemmas.Option.{none-some, same_Some}
+use Rattle.std.proofs.lemmas.Bool.{cond-true, cond-false, cases_Bool, and_parts, and_from, or_left, or_right, or_from, not-true, not-false, not_from_true, not_from_false, false_from_ne_true, eqb-true, eq-eqb}
 use Rattle.dired_text.specs.Paths.{Names, parent}
 use Rattle.dired_text.proofs.PathLemmas.{parent-push}
 use Rattle.edit_words.specs.declared.row.Row.{Row}
@@ -12,13 +10,13 @@ use Rattle.edit_words.specs.Rows.{written, is_at, is_elsewhere, is_elsewhere_of,
 use Rattle.edit_words.specs.Edited.{is_fresh}
 use Rattle.edit_words.proofs.SameLemmas.{same_path}
 use Rattle.edit_words.proofs.AboveLemmas.{above_decides}
-use Rattle.edit_laws.proofs.ListLemmas.{contains_head, contains_tail, contains_none, contains_cases, contains_filter, filter_parts, any_parts, any_from, any_none, contains_map, map_parts}
-use Rattle.edit_laws.proofs.RowLemmas.{is_at-true, is_at-same, written-to, written-none, front_last, last_name-push}
-use Rattle.plan_moves.specs.Waiting.{Waiting, HasDifferentLines, is_free, is_unkept, is_above_source, is_in_place, keeps_in_place, is_ready, without, put_away}
+use Rattle.edit_laws.proofs.ListLemmas.{filter_parts, any_parts, any_from, any_none, contains_map, map_parts}
+use Rattle.edit_laws.proofs.RowLemmas.{is_at-true, is_at-same, written-to, written-none, front_last}
+use Rattle.plan_moves.specs.Waiting.{Waiting, HasDifferentLines, is_free, is_unkept, is_above_source, is_in_place, keeps_in_place, is_ready, put_away}
 use Rattle.plan_moves.specs.Plan.{is_moving}
-use Rattle.plan_moves.proofs.Order.{put, put-line}
-use Rattle.plan_moves.proofs.Number.{own_lines, distinct_less, distinct_put}
-use Rattle.least_renames.specs.Cycles.{IsLeft, AreFlat}
+use Rattle.plan_moves.proofs.Order.{put}
+use Rattle.plan_moves.proofs.Number.{distinct_less, distinct_put}
+use Rattle.least_renames.specs.Cycles.{IsVacated, AreFlat}
 use Rattle.least_renames.proofs.CycleLemmas.{Moving}
 
 -- a change waits at its source
@@ -79,9 +77,9 @@ above_sibling s p w above same not_root =
     first (x ∷ front) m is = (x, front ++ m ∷ [], is)
 
 module _ (rs : List Row) (fine : AreFlatRows rs) where
-  -- what waits and has a source has one that is left
-  left_of : (r : Row) (p : Names) → Contains rs r → (is_fresh r || is_some r.to) ≡ true → r.source ≡ Some p → IsLeft rs p
-  left_of r p c waits source = (r, c, source, go (cases_Bool r.retargets))
+  -- what waits at a source, or did so, leaves it
+  vacated_of : (r : Row) (p : Names) → Contains rs r → (is_fresh r || is_some r.to) ≡ true → r.source ≡ Some p → IsVacated rs p
+  vacated_of r p c waits source = (r, c, source, go (cases_Bool r.retargets))
     where
       go : (r.retargets ≡ true) ⊎ (r.retargets ≡ false) → (is_moving r || r.retargets) ≡ true
       go (inl link) = or_right (is_moving r) r.retargets link
@@ -91,27 +89,27 @@ module _ (rs : List Row) (fine : AreFlatRows rs) where
           or_left (is_moving r) r.retargets (and_from (is_some r.to) (not (is_fresh r)) to (not_from_false (is_fresh r) no))
 
   -- nothing keeps an edit at its source
-  none_keeps : (v : Waiting) (s : Names) → Contains rs v.row → (is_fresh v.row || is_some v.row.to) ≡ true → IsLeft rs s → keeps_in_place s v ≡ false
-  none_keeps v s c waits left = or_from (not v.is_away && is_above_source s v.row.source) (v.is_away && is_in_place v.row && is_above s (written v.row))
+  none_keeps : (v : Waiting) (s : Names) → Contains rs v.row → (is_fresh v.row || is_some v.row.to) ≡ true → IsVacated rs s → keeps_in_place s v ≡ false
+  none_keeps v s c waits vacated = or_from (not v.is_away && is_above_source s v.row.source) (v.is_away && is_in_place v.row && is_above s (written v.row))
       (false_from_ne_true _ (λ e. below v.row.source refl (and_parts (not v.is_away) (is_above_source s v.row.source) e).1))
       (false_from_ne_true _ (λ e. let parts = and_parts (v.is_away && is_in_place v.row) (is_above s (written v.row)) e in
       in_place v.row.source refl (and_parts v.is_away (is_in_place v.row) parts.0).1 ((above_decides s (written v.row)).0 parts.1)))
     where
       below : (o : Option Names) → v.row.source ≡ o → is_above_source s v.row.source ≡ true → ⊥
       below None is e = let both : false ≡ true = sym (ap (is_above_source s) is) ∙ e in cc
-      below (Some q) is e = fine.flat s q left (left_of v.row q c waits is) ((above_decides s q).0 (sym (ap (is_above_source s) is) ∙ e))
+      below (Some q) is e = fine.flat s q vacated (vacated_of v.row q c waits is) ((above_decides s q).0 (sym (ap (is_above_source s) is) ∙ e))
 
       in_place : (o : Option Names) → v.row.source ≡ o → is_in_place v.row ≡ true → IsAbove s (written v.row) → ⊥
       in_place None is e above = let both : false ≡ true = sym (ap (λ (x : Option Names). is_some x && not (is_elsewhere v.row)) is) ∙ e in cc
       in_place (Some q) is e above = by_to v.row.to refl
         where
           by_to : (x : Option Names) → v.row.to ≡ x → ⊥
-          by_to None to = fine.flat s q left (left_of v.row q c waits is) (subst (IsAbove s) (written-none v.row q is to) above)
+          by_to None to = fine.flat s q vacated (vacated_of v.row q c waits is) (subst (IsAbove s) (written-none v.row q is to) above)
           by_to (Some w) to =
               let near : is_elsewhere v.row ≡ false = not-true (is_elsewhere v.row) (and_parts (is_some v.row.source) (not (is_elsewhere v.row)) e).1 in
               let far_of : is_elsewhere v.row ≡ not (is_same_path (parent q) (parent w)) = ap (λ (a : Option Names). is_elsewhere_of a v.row.to) is ∙ ap (is_elsewhere_of (Some q)) to in
               let same : parent q ≡ parent w = same_path (parent q) (parent w) (not-false (is_same_path (parent q) (parent w)) (sym far_of ∙ near)) in
-              fine.flat s q left (left_of v.row q c waits is)
+              fine.flat s q vacated (vacated_of v.row q c waits is)
               (above_sibling s q w (subst (IsAbove s) (written-to v.row w to) above) same (fine.not_root v.row q c is))
 
   module _ (ws : List Waiting) (are : AreWaiting rs ws) where
@@ -122,9 +120,9 @@ module _ (rs : List Row) (fine : AreFlatRows rs) where
         go (inl away) = or_left w.is_away (is_unkept ws w.row.source) away
         go (inr here) =
             let s = source_of w.row (are.here w c here) in
-            let left : IsLeft rs s.0 = left_of w.row s.0 (are.listed w c) (are.waits w c) s.1 in
+            let vacated : IsVacated rs s.0 = vacated_of w.row s.0 (are.listed w c) (are.waits w c) s.1 in
             or_right w.is_away (is_unkept ws w.row.source) (ap (is_unkept ws) s.1
-            ∙ not_from_false (list_any (keeps_in_place s.0) ws) (any_none (keeps_in_place s.0) ws (λ v d. none_keeps v s.0 (are.listed v d) (are.waits v d) left)))
+            ∙ not_from_false (list_any (keeps_in_place s.0) ws) (any_none (keeps_in_place s.0) ws (λ v d. none_keeps v s.0 (are.listed v d) (are.waits v d) vacated)))
 
     -- what isn't ready goes to the path of one that waits at its source,
     pub next_waits : (w : Waiting) → Contains ws w → is_ready ws w ≡ false → (r : Row) × WaitsHere ws r × (r.source ≡ Some (written w.row))

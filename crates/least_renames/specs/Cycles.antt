@@ -32,9 +32,9 @@ abbrev pub IsMovingIn : List Row → Row → Type 0
 IsMovingIn rs r = Contains rs r × (is_moving r ≡ true)
 
 -- the source of a moving edit, or of a link that gets another target
-abbrev pub IsLeft : List Row → Names → Type 0
-IsLeft rs p = (r : Row) × Contains rs r × (r.source ≡ Some p) × ((is_moving r || r.retargets) ≡ true)
+abbrev pub IsVacated : List Row → Names → Type 0
+IsVacated rs p = (r : Row) × Contains rs r × (r.source ≡ Some p) × ((is_moving r || r.retargets) ≡ true)
 
 -- Changes are flat where no such source is strictly below another one.
 abbrev pub AreFlat : List Row → Type 0
-AreFlat rs = (p q : Names) → IsLeft rs p → IsLeft rs q → IsAbove p q → ⊥
+AreFlat rs = (p q : Names) → IsVacated rs p → IsVacated rs q → IsAbove p q → ⊥

@@ -5,6 +5,7 @@ ghost use Rattle.least_renames.specs.Laws.{
   MovesAreLeast,
   OneDirectoryIsFlat,
   PlansAreLeast,
+  PlansAreLeastFromMore,
   PlansAreMoves,
 };
 
@@ -20,10 +21,11 @@ pub fn knots_are_cycles()
 /// Edits that only give entries of one directory other names in it, where nothing is replaced, are flat. Every list of
 /// renames that can be carried out in turn, and that carries each path of the tree to its new place, has at least as many
 /// renames as such edits have moves, in whatever order ready ones are carried out. The steps of a plan of such edits are just
-/// these moves.
+/// these moves. The renames may begin with a tree in which more stands, as the staging directory that the plan's own moves use.
 pub fn no_list_of_renames_is_shorter()
     ensures flat { OneDirectoryIsFlat }
     ensures moves { MovesAreLeast }
     ensures plans { PlansAreLeast }
+    ensures wider { PlansAreLeastFromMore }
     ensures steps { PlansAreMoves }
 {}
