@@ -4,7 +4,7 @@ use Rattle.std.proofs.lemmas.List.Elements.{Contains-append_cases, Contains-appe
 use Rattle.dired_text.specs.Paths.{Names}
 use Rattle.edit_words.specs.declared.row.Row.{Row}
 use Rattle.edit_words.proofs.FindLemmas.{contains_head, contains_tail, contains_none, contains_cases}
-use Rattle.least_renames.specs.Cycles.{IsCycle, edits_of}
+use Rattle.least_renames.specs.Cycles.{GoesRound, edits_of}
 
 -- each of these goes to the path of the next one, and the last to that of `end`
 abbrev pub Trail : Row → List Row → Row → Type 0
@@ -51,7 +51,7 @@ module _ (P : Row → Type 0) where
   ]
 
   -- what each of a cycle hands on to the next one holds of all, where it holds of one
-  pub round : (c : List Row) → IsCycle c → ((a b : Row) → P a → Contains c b → a.to ≡ b.source → P b) → (x : Row) → Contains c x → P x → (y : Row) → Contains c y → P y
+  pub round : (c : List Row) → GoesRound c → ((a b : Row) → P a → Contains c b → a.to ≡ b.source → P b) → (x : Row) → Contains c x → P x → (y : Row) → Contains c y → P y
   round [] cycle hands x c px y d = absurd cycle
   round (r ∷ rs) cycle hands x c px y d =
       let trail = trail_of r rs r cycle in
@@ -76,7 +76,7 @@ next_on r (o ∷ rs) end trail x c = elim (contains_cases r x (o ∷ rs) c) [
     further y (inl c) = inl (contains_tail o y rs c)
     further y (inr same) = inr same
 
-pub next_in : (c : List Row) → IsCycle c → (x : Row) → Contains c x → (y : Row) × Contains c y × (x.to ≡ y.source)
+pub next_in : (c : List Row) → GoesRound c → (x : Row) → Contains c x → (y : Row) × Contains c y × (x.to ≡ y.source)
 next_in [] cycle x c = absurd cycle
 next_in (r ∷ rs) cycle x c = let next = next_on r rs r (trail_of r rs r cycle) x c in (next.0, within next.0 next.1, next.2)
   where
@@ -92,7 +92,7 @@ pub record Moving (Moves : Row → Type 0) : Type 0 where
   pub sources : (r o : Row) (p : Names) → Moves r → Moves o → r.source ≡ Some p → o.source ≡ Some p → r ≡ o
 
 -- two cycles with an edit in common have the same edits
-pub cycles_meet : (Moves : Row → Type 0) → Moving Moves → (c d : List Row) → IsCycle c → IsCycle d → ((r : Row) → Contains c r → Moves r) → ((r : Row) → Contains d r → Moves r)
+pub cycles_meet : (Moves : Row → Type 0) → Moving Moves → (c d : List Row) → GoesRound c → GoesRound d → ((r : Row) → Contains c r → Moves r) → ((r : Row) → Contains d r → Moves r)
     → (x : Row) → Contains c x → Contains d x → (y : Row) → Contains c y → Contains d y
 cycles_meet Moves moving c d cycle_c cycle_d moves_c moves_d x in_c in_d y y_in = round (Contains d) c cycle_c hands x in_c in_d y y_in
   where

@@ -11,7 +11,7 @@ use Rattle.edit_words.specs.declared.row.Row.{Row}
 use Rattle.edit_words.specs.Refusals.{total}
 use Rattle.edit_laws.proofs.ListLemmas.{contains_head, contains_tail, contains_none, contains_cases, contains_filter, filter_parts, any_parts, any_from, contains_map, map_parts}
 use Rattle.plan_moves.specs.Least.{Renames, CanRenameAll, carried}
-use Rattle.least_renames.specs.Cycles.{IsCycle, HasNoRepeats, edits_of}
+use Rattle.least_renames.specs.Cycles.{GoesRound, HasNoRepeats, edits_of}
 use Rattle.least_renames.proofs.ListLemmas.{no_repeats_joined, no_repeats_filter, no_repeats_map, fits_in, total-append}
 use Rattle.least_renames.proofs.RenameFacts.{own, own_sum, at_least_once, Before, twice, first, before_or_after}
 use Rattle.least_renames.proofs.CycleLemmas.{Trail, trail_of}
@@ -91,7 +91,7 @@ module _ (t : FileTree) (others : Renames) (tree : IsTree t) (can : CanRenameAll
       omega arith
 
   -- the paths of a cycle are renamed at least once each, and once more
-  cycle_sum : (c : List Row) → IsCycle c → ((r : Row) → Contains c r → Shifts t others d r) → length c + 1 ≤ total times c
+  cycle_sum : (c : List Row) → GoesRound c → ((r : Row) → Contains c r → Shifts t others d r) → length c + 1 ≤ total times c
   cycle_sum [] cycle shifts = absurd cycle
   cycle_sum (r ∷ rs) cycle shifts = elim (cases_lt (length (r ∷ rs)) (total times (r ∷ rs))) [
     | inl many ↦ omega arith
@@ -99,7 +99,7 @@ module _ (t : FileTree) (others : Renames) (tree : IsTree t) (can : CanRenameAll
         (λ x c. (shifts x c, all_one times (r ∷ rs) (λ y e. renamed_once y (shifts y e)) few x c)) (shifts r (contains_head r rs)) in omega arith)
   ]
 
-  cycles_sum : (cycles : List (List Row)) → ((c : List Row) → Contains cycles c → IsCycle c) → ((r : Row) → Contains (edits_of cycles) r → Shifts t others d r)
+  cycles_sum : (cycles : List (List Row)) → ((c : List Row) → Contains cycles c → GoesRound c) → ((r : Row) → Contains (edits_of cycles) r → Shifts t others d r)
       → length (edits_of cycles) + length cycles ≤ total times (edits_of cycles)
   cycles_sum [] each shifts = omega arith
   cycles_sum (c ∷ cycles) each shifts =
@@ -114,7 +114,7 @@ module _ (t : FileTree) (others : Renames) (tree : IsTree t) (can : CanRenameAll
   module _ (rs : List Row) (once : HasNoRepeats rs) (lines : (r o : Row) → Contains rs r → Contains rs o → r.line ≡ o.line → r ≡ o)
       (sources : (r o : Row) (p : Names) → Contains rs r → Contains rs o → r.source ≡ Some p → o.source ≡ Some p → r ≡ o)
       (shifts : (r : Row) → Contains rs r → Shifts t others d r)
-      (cycles : List (List Row)) (each : (c : List Row) → Contains cycles c → IsCycle c)
+      (cycles : List (List Row)) (each : (c : List Row) → Contains cycles c → GoesRound c)
       (among : (r : Row) → Contains (edits_of cycles) r → Contains rs r) (cycles_once : HasNoRepeats (edits_of cycles)) where
     abbrev on_cycle : Row → Bool
     on_cycle r = list_any (λ (o : Row). o.line == r.line) (edits_of cycles)

@@ -36,9 +36,9 @@ waiting_parts (r ∷ rs) w c = go (waiting_parts rs w) (cases_Bool (is_fresh r |
     go : (Contains (waiting rs) w → WaitsAtFirst rs w) → ((is_fresh r || is_some r.to) ≡ true) ⊎ ((is_fresh r || is_some r.to) ≡ false) → WaitsAtFirst (r ∷ rs) w
     go more (inl waits) = elim (contains_cases (record { row = r; is_away = is_fresh r }) w (waiting rs)
         (subst (λ (l : List Waiting). Contains l w) (cond-true _ ((record { row = r; is_away = is_fresh r }) ∷ waiting rs) (waiting rs) waits) c)) [
-      | inl same ↦ subst (WaitsAtFirst (r ∷ rs)) same (record { listed = contains_head r rs; waits = waits; away = refl })
-      | inr later ↦ further (more later)
-    ]
+          | inl same ↦ subst (WaitsAtFirst (r ∷ rs)) same (record { listed = contains_head r rs; waits = waits; away = refl })
+          | inr later ↦ further (more later)
+        ]
     go more (inr stays) = further (more (subst (λ (l : List Waiting). Contains l w) (cond-false _ ((record { row = r; is_away = is_fresh r }) ∷ waiting rs) (waiting rs) stays) c))
 
 pub waiting_from : (rs : List Row) (r : Row) → Contains rs r → (is_fresh r || is_some r.to) ≡ true → Contains (waiting rs) (record { row = r; is_away = is_fresh r })

@@ -12,7 +12,7 @@ use Rattle.plan_moves.specs.Waiting.{Waiting, is_ready, NoneReady, without, put_
 use Rattle.plan_moves.proofs.Order.{Counts, over, carry, knot}
 use Rattle.plan_moves.proofs.Number.{none_left, deepest-contains}
 use Rattle.plan_moves.proofs.AtMost.{deepest-here}
-use Rattle.least_renames.specs.Cycles.{IsCycle, HasNoRepeats, edits_of, AreCycles}
+use Rattle.least_renames.specs.Cycles.{GoesRound, IsCycle, HasNoRepeats, edits_of, AreCycles}
 use Rattle.least_renames.proofs.ListLemmas.{no_repeats_joined, no_repeats_without, no_repeats_apart, no_repeats_back, split_at}
 use Rattle.least_renames.proofs.CycleLemmas.{next_in, cycles_meet, edits_from, cycle_of}
 use Rattle.least_renames.proofs.WalkLemmas.{CycleThrough, cycle_through, source_path}
@@ -31,9 +31,9 @@ alike_cycles M N cycles to back are = record {
 -- where nothing moves there is none
 no_cycles : (M : Row → Type 0) (cycles : List (List Row)) → ((r : Row) → M r → ⊥) → AreCycles M cycles → length cycles ≡ 0
 no_cycles M [] none are = refl
-no_cycles M (c ∷ cycles) none are = absurd (first c (are.each c (contains_head c cycles)) (λ r d. are.move r (edits_from (c ∷ cycles) c r (contains_head c cycles) d)))
+no_cycles M (c ∷ cycles) none are = absurd (first c (are.each c (contains_head c cycles)).1 (λ r d. are.move r (edits_from (c ∷ cycles) c r (contains_head c cycles) d)))
   where
-    first : (c : List Row) → IsCycle c → ((r : Row) → Contains c r → M r) → ⊥
+    first : (c : List Row) → GoesRound c → ((r : Row) → Contains c r → M r) → ⊥
     first [] cycle move = cycle
     first (r ∷ rs) cycle move = none r (move r (contains_head r rs))
 
@@ -42,10 +42,10 @@ no_edits M none = record {
   each = λ c d. absurd (contains_none c d);
   move = λ r d. absurd (contains_none r d);
   once = tt;
-  all = λ c cycle move. absurd (first c cycle move);
+  all = λ c cycle move. absurd (first c cycle.1 move);
 }
   where
-    first : (c : List Row) → IsCycle c → ((r : Row) → Contains c r → M r) → ⊥
+    first : (c : List Row) → GoesRound c → ((r : Row) → Contains c r → M r) → ⊥
     first [] cycle move = cycle
     first (r ∷ rs) cycle move = none r (move r (contains_head r rs))
 
@@ -56,14 +56,14 @@ edits_split front c back = flat_map-append (λ (c : List Row). c) front (c ∷ b
 module _ (rs : List Row) (fine : AreFlatRows rs) where
   module _ (ws : List Waiting) (are : AreWaiting rs ws) where
     -- what is on a cycle isn't ready
-    on_cycle : (c : List Row) → IsCycle c → ((r : Row) → Contains c r → WaitsHere ws r) → (w : Waiting) → Contains ws w → Contains c w.row → is_ready ws w ≡ false
+    on_cycle : (c : List Row) → GoesRound c → ((r : Row) → Contains c r → WaitsHere ws r) → (w : Waiting) → Contains ws w → Contains c w.row → is_ready ws w ≡ false
     on_cycle c cycle here w listed on =
         let next = next_in c cycle w.row on in
         let to = new_path_of w.row (moves_here rs fine ws are w.row (here w.row on)) in
         blocked rs fine ws are w next.0 (here next.0 next.1) (sym next.2 ∙ to.1 ∙ ap (λ (p : Names). Some p) (sym (written-to w.row to.0 to.1)))
 
     -- so it waits still where a ready one is gone,
-    stays_here : (w : Waiting) → Contains ws w → is_ready ws w ≡ true → (c : List Row) → IsCycle c → ((r : Row) → Contains c r → WaitsHere ws r) → (r : Row) → Contains c r → WaitsHere (without w ws) r
+    stays_here : (w : Waiting) → Contains ws w → is_ready ws w ≡ true → (c : List Row) → GoesRound c → ((r : Row) → Contains c r → WaitsHere ws r) → (r : Row) → Contains c r → WaitsHere (without w ws) r
     stays_here w listed ready c cycle here r on =
         contains_filter (λ (v : Waiting). not (v.row.line == w.row.line)) ws (record { row = r; is_away = false }) (here r on)
         (not_from_false (r.line == w.row.line) (false_from_ne_true (r.line == w.row.line) (λ same.
@@ -85,7 +85,7 @@ module _ (rs : List Row) (fine : AreFlatRows rs) where
             (found.0, found.1, to.1 ∙ ap (λ (p : Names). Some p) (sym (written-to r to.0 to.1)) ∙ sym found.2)
 
     -- two cycles of those that wait at their sources, with an edit in common
-    meet : (c e : List Row) → IsCycle c → IsCycle e → ((r : Row) → Contains c r → WaitsHere ws r) → ((r : Row) → Contains e r → WaitsHere ws r)
+    meet : (c e : List Row) → GoesRound c → GoesRound e → ((r : Row) → Contains c r → WaitsHere ws r) → ((r : Row) → Contains e r → WaitsHere ws r)
         → (x : Row) → Contains c x → Contains e x → (y : Row) → Contains c y → Contains e y
     meet = cycles_meet (WaitsHere ws) (moving_here rs fine ws are)
 
@@ -149,7 +149,7 @@ module _ (rs : List Row) (fine : AreFlatRows rs) where
               by_side : Contains (edits_of front) shared.0 ⊎ Contains (c ++ edits_of back) shared.0 → (r : Row) × Contains x r × Contains (edits_of (front ++ back)) r
               by_side (inl first) = (shared.0, shared.1, kept (inl first))
               by_side (inr later) = elim (Contains-append_cases c (edits_of back) shared.0 later) [
-                | inl in_c ↦ absurd (gone (move d.row (meet c x (cycles.each c c_listed) cycle
+                | inl in_c ↦ absurd (gone (move d.row (meet c x (cycles.each c c_listed).1 cycle.1
                     (λ r at. cycles.move r (edits_from (front ++ c ∷ back) c r c_listed at)) (λ r at. before r (move r at)) shared.0 in_c shared.1 d.row on)))
                 | inr last ↦ (shared.0, shared.1, kept (inr last))
               ]
@@ -158,14 +158,14 @@ module _ (rs : List Row) (fine : AreFlatRows rs) where
       one_through : NoneReady ws → (cycles : List (List Row)) → AreCycles (WaitsHere ws) cycles → (c : List Row) × Contains cycles c × Contains c d.row
       one_through no_one cycles all =
           let own = through no_one d.row d_here in
-          let shared = all.all (d.row ∷ own.rest) own.cycle own.move in
+          let shared = all.all (d.row ∷ own.rest) (own.once, own.cycle) own.move in
           let c = cycle_of cycles shared.0 shared.2 in
-          (c.0, c.1, meet (d.row ∷ own.rest) c.0 own.cycle (all.each c.0 c.1) own.move (λ r at. all.move r (edits_from cycles c.0 r c.1 at)) shared.0 shared.1 c.2 d.row (contains_head d.row own.rest))
+          (c.0, c.1, meet (d.row ∷ own.rest) c.0 own.cycle (all.each c.0 c.1).1 own.move (λ r at. all.move r (edits_from cycles c.0 r c.1 at)) shared.0 shared.1 c.2 d.row (contains_head d.row own.rest))
 
       -- and the other way round
       joined : (own : CycleThrough (WaitsHere ws) d.row) (cycles : List (List Row)) → AreCycles (WaitsHere (put_away d ws)) cycles → AreCycles (WaitsHere ws) ((d.row ∷ own.rest) ∷ cycles)
       joined own cycles rest = record {
-        each = λ x listed. elim (contains_cases (d.row ∷ own.rest) x cycles listed) [ inl same ↦ subst IsCycle same own.cycle | inr later ↦ rest.each x later ];
+        each = λ x listed. elim (contains_cases (d.row ∷ own.rest) x cycles listed) [ inl same ↦ subst IsCycle same (own.once, own.cycle) | inr later ↦ rest.each x later ];
         move = λ r listed. elim (Contains-append_cases (d.row ∷ own.rest) (edits_of cycles) r listed) [ inl here ↦ own.move r here | inr later ↦ before r (rest.move r later) ];
         once = no_repeats_joined (d.row ∷ own.rest) (edits_of cycles) own.once rest.once apart;
         all = all;
@@ -175,7 +175,7 @@ module _ (rs : List Row) (fine : AreFlatRows rs) where
           apart x here there =
               let e = cycle_of cycles x there in
               gone (rest.move d.row (edits_from cycles e.0 d.row e.1
-              (meet (d.row ∷ own.rest) e.0 own.cycle (rest.each e.0 e.1) own.move (λ r at. before r (rest.move r (edits_from cycles e.0 r e.1 at))) x here e.2 d.row (contains_head d.row own.rest))))
+              (meet (d.row ∷ own.rest) e.0 own.cycle (rest.each e.0 e.1).1 own.move (λ r at. before r (rest.move r (edits_from cycles e.0 r e.1 at))) x here e.2 d.row (contains_head d.row own.rest))))
 
           all : (x : List Row) → IsCycle x → ((r : Row) → Contains x r → WaitsHere ws r) → (r : Row) × Contains x r × Contains ((d.row ∷ own.rest) ++ edits_of cycles) r
           all x cycle move = go (cases_Bool (list_any (λ (r : Row). r.line == d.row.line) x))
@@ -199,7 +199,7 @@ module _ (rs : List Row) (fine : AreFlatRows rs) where
   counted ws k are (over _ no_one end) cycles all = sym (no_cycles (WaitsHere ws) cycles (λ r here. contains_none (record { row = r; is_away = false }) (subst (λ (l : List Waiting). WaitsHere l r) (none_left ws no_one end) here)) all)
   counted ws k are (carry _ w _ listed ready rest) cycles all = counted (without w ws) k (waiting_less rs fine (λ (v : Waiting). not (v.row.line == w.row.line)) ws are) rest cycles
       (alike_cycles (WaitsHere ws) (WaitsHere (without w ws)) cycles
-      (λ r c here. let e = cycle_of cycles r c in stays_here ws are w listed ready e.0 (all.each e.0 e.1) (λ o at. all.move o (edits_from cycles e.0 o e.1 at)) r e.2)
+      (λ r c here. let e = cycle_of cycles r c in stays_here ws are w listed ready e.0 (all.each e.0 e.1).1 (λ o at. all.move o (edits_from cycles e.0 o e.1 at)) r e.2)
       (λ r here. was_here ws are w r here) all)
   counted ws k are (knot _ d j no_one is rest) cycles all =
       let here : WaitsHere ws d.row = waits_here ws d (deepest-contains ws d is) (deepest-here ws d is) in
@@ -215,13 +215,15 @@ module _ (rs : List Row) (fine : AreFlatRows rs) where
   pub found : (ws : List Waiting) (k : ℕ) → AreWaiting rs ws → Counts ws k → (cycles : List (List Row)) × AreCycles (WaitsHere ws) cycles
   found ws k are (over _ no_one end) = ([], no_edits (WaitsHere ws) (λ r here. contains_none (record { row = r; is_away = false }) (subst (λ (l : List Waiting). WaitsHere l r) (none_left ws no_one end) here)))
   found ws k are (carry _ w _ listed ready rest) =
-      let more = found (without w ws) k (waiting_less rs fine (λ (v : Waiting). not (v.row.line == w.row.line)) ws are) rest in
-      (more.0, record {
-        each = more.1.each;
-        move = λ r c. was_here ws are w r (more.1.move r c);
-        once = more.1.once;
-        all = λ c cycle move. more.1.all c cycle (λ r at. stays_here ws are w listed ready c cycle move r at);
-      })
+      let more = found (without w ws) k (waiting_less rs fine (λ (v : Waiting). not (v.row.line == w.row.line)) ws are) rest in (
+        more.0,
+        record {
+          each = more.1.each;
+          move = λ r c. was_here ws are w r (more.1.move r c);
+          once = more.1.once;
+          all = λ c cycle move. more.1.all c cycle (λ r at. stays_here ws are w listed ready c cycle.1 move r at);
+        },
+      )
   found ws k are (knot _ d j no_one is rest) =
       let here : WaitsHere ws d.row = waits_here ws d (deepest-contains ws d is) (deepest-here ws d is) in
       let more = found (put_away d ws) j (waiting_put rs fine d ws are) rest in

@@ -101,7 +101,7 @@ module _ (t start : FileTree) (changes : Changes) (tree : IsTree t) (asked : Can
         let parts = flat.renames r c in
         let stands_dir : Stands t dir = dir_stands _ (tree.parents dir parts.0 (are.standing r (dir ++ parts.0 ∷ []) c parts.2)) in
         least_by_cycles start others start_tree can dir (more dir stands_dir) (rows changes) (rows_once (rows changes) asked.lines) are.lines are.sources (shifts stands_dir)
-        cycles all.each (λ o d. (all.move o d).0) all.once
+        cycles (λ c d. (all.each c d).1) (λ o d. (all.move o d).0) all.once
 
   moves_counted : (moves : List Step) → Moves 0 (fresh_spots 0 (rows changes)) (waiting (rows changes)) moves → length moves ≡ length (waiting (rows changes)) + knots (waiting (rows changes))
   moves_counted moves run = number 0 (fresh_spots 0 (rows changes)) (waiting (rows changes)) moves (waiting_different (rows changes) asked.lines) run

@@ -77,9 +77,9 @@ module _ (dir : Names) (t : FileTree) (changes : Changes) (flat : IsFlatIn dir t
   none_missing r c =
       let parts = flat.renames r c in
       let near : is_elsewhere r ≡ false =
-          ap (λ (o : Option Names). is_elsewhere_of o r.to) parts.2 ∙ ap (is_elsewhere_of (Some (dir ++ parts.0 ∷ []))) parts.3
-          ∙ not_from_true (is_same_path (parent (dir ++ parts.0 ∷ [])) (parent (dir ++ parts.1 ∷ [])))
-          (ap (λ (p : Names). is_same_path p (parent (dir ++ parts.1 ∷ []))) (parent-push dir parts.0) ∙ ap (is_same_path dir) (parent-push dir parts.1) ∙ same_itself dir) in
+      ap (λ (o : Option Names). is_elsewhere_of o r.to) parts.2 ∙ ap (is_elsewhere_of (Some (dir ++ parts.0 ∷ []))) parts.3
+      ∙ not_from_true (is_same_path (parent (dir ++ parts.0 ∷ [])) (parent (dir ++ parts.1 ∷ [])))
+      (ap (λ (p : Names). is_same_path p (parent (dir ++ parts.1 ∷ []))) (parent-push dir parts.0) ∙ ap (is_same_path dir) (parent-push dir parts.1) ∙ same_itself dir) in
       cond-false (is_elsewhere r) _ [] near
 
   -- and no mode changes

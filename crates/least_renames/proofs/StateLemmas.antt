@@ -128,7 +128,7 @@ module _ (rs : List Row) (fine : AreFlatRows rs) where
     pub next_waits : (w : Waiting) → Contains ws w → is_ready ws w ≡ false → (r : Row) × WaitsHere ws r × (r.source ≡ Some (written w.row))
     next_waits w c unready =
         let taken : is_free ws (written w.row) ≡ false = false_from_ne_true (is_free ws (written w.row)) (λ free.
-            let both : true ≡ false = sym (and_from (is_free ws (written w.row)) (w.is_away || is_unkept ws w.row.source) free (unkept w c)) ∙ unready in cc) in
+        let both : true ≡ false = sym (and_from (is_free ws (written w.row)) (w.is_away || is_unkept ws w.row.source) free (unkept w c)) ∙ unready in cc) in
         let some = not-false (list_any (λ (v : Waiting). not v.is_away && is_at (written w.row) v.row.source) ws) taken in
         let v = any_parts (λ (v : Waiting). not v.is_away && is_at (written w.row) v.row.source) ws some in
         let parts = and_parts (not v.0.is_away) (is_at (written w.row) v.0.row.source) v.2 in

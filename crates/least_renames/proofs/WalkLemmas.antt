@@ -8,7 +8,7 @@ use Rattle.edit_words.specs.declared.row.Row.{Row}
 use Rattle.edit_words.specs.Rows.{is_same_path}
 use Rattle.edit_words.proofs.SameLemmas.{same_path, same_itself}
 use Rattle.edit_words.proofs.FindLemmas.{contains_head, contains_tail, contains_none, contains_cases, contains_map_from}
-use Rattle.least_renames.specs.Cycles.{IsCycle, HasNoRepeats}
+use Rattle.least_renames.specs.Cycles.{GoesRound, HasNoRepeats}
 use Rattle.least_renames.proofs.ListLemmas.{no_repeats_joined, no_repeats_map, fits_in}
 use Rattle.least_renames.proofs.CycleLemmas.{Trail, of_trail, Moving}
 
@@ -26,7 +26,7 @@ last_of_trail r (o ∷ rs) end trail = let more = last_of_trail o rs end trail.1
 -- A cycle through an edit, with no edit twice.
 pub record CycleThrough (Moves : Row → Type 0) (d : Row) : Type 0 where
   pub rest : List Row
-  pub cycle : IsCycle (d ∷ rest)
+  pub cycle : GoesRound (d ∷ rest)
   pub move : (r : Row) → Contains (d ∷ rest) r → Moves r
   pub once : HasNoRepeats (d ∷ rest)
 

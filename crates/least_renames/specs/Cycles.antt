@@ -6,15 +6,19 @@ use Rattle.edit_words.specs.declared.row.Row.{Row}
 use Rattle.edit_words.specs.Place.{IsAbove}
 use Rattle.plan_moves.specs.Plan.{is_moving}
 
--- The new path of each is the source of the next one, and that of the last the source of the first.
-abbrev pub IsCycle : List Row → Type 0
-IsCycle [] = ⊥
-IsCycle (r ∷ rs) = map (λ (o : Row). o.to) (r ∷ rs) ≡ map (λ (o : Row). o.source) (rs ++ r ∷ [])
-
 -- nothing stands twice in it
 abbrev pub HasNoRepeats : {X : Type 0} → List X → Type 0
 HasNoRepeats [] = Unit {0}
 HasNoRepeats (x ∷ xs) = (Contains xs x → ⊥) × HasNoRepeats xs
+
+-- the new path of each is the source of the next one, and that of the last the source of the first
+abbrev pub GoesRound : List Row → Type 0
+GoesRound [] = ⊥
+GoesRound (r ∷ rs) = map (λ (o : Row). o.to) (r ∷ rs) ≡ map (λ (o : Row). o.source) (rs ++ r ∷ [])
+
+-- A cycle goes round once.
+abbrev pub IsCycle : List Row → Type 0
+IsCycle c = HasNoRepeats c × GoesRound c
 
 -- the edits of some cycles
 abbrev pub edits_of : List (List Row) → List Row
