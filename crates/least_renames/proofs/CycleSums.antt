@@ -3,7 +3,7 @@ use Rattle.std.proofs.Common.{◌≡◌, ◌≢◌, ◌⊎◌, inl, inr, ℕ, �
 use Rattle.std.specs.Prelude.{unwrap_or}
 use Rattle.std.specs.List.{list_any}
 use Rattle.std.proofs.lemmas.Bool.{cases_Bool, cases_lt, not-true, not_from_false, eqb-true, eq-eqb}
-use Rattle.std.proofs.lemmas.List.{same_from_push}
+use Rattle.std.proofs.lemmas.List.{same_from_push, length-map}
 use Rattle.std.proofs.lemmas.List.Elements.{Contains-append_cases, Contains-append_left, Contains-append_right}
 use Rattle.dired_text.specs.Paths.{Names}
 use Rattle.tree_core.specs.FileTree.{FileTree, IsTree, Stands}
@@ -37,10 +37,6 @@ all_one f (y ∷ xs) some few x c =
 total-map : {X Y : Type 0} (f : Y → ℕ) (g : X → Y) (xs : List X) → total f (map g xs) ≡ total (λ (x : X). f (g x)) xs
 total-map f g [] = refl
 total-map f g (x ∷ xs) = let more = total-map f g xs in omega arith
-
-length-mapped : {X Y : Type 0} (g : X → Y) (xs : List X) → length (map g xs) ≡ length xs
-length-mapped g [] = refl
-length-mapped g (x ∷ xs) = let more = length-mapped g xs in omega arith
 
 -- An edit in a directory d that gives its path another name, where some renames carry that path to it.
 pub record Shifts (t : FileTree) (others : Renames) (d : Names) (r : Row) : Type 0 where
@@ -165,6 +161,6 @@ module _ (t : FileTree) (others : Renames) (tree : IsTree t) (can : CanRenameAll
         (no_repeats_joined (edits_of cycles) rest cycles_once rest_once apart)) in
         let fits = fits_in (map source_path rs) (map source_path (edits_of cycles ++ rest)) (no_repeats_map source_path rs (λ x y c e same. one_path x y c e same) once)
         (λ p c. let m = map_parts source_path rs p c in subst (Contains (map source_path (edits_of cycles ++ rest))) m.2 (contains_map source_path (edits_of cycles ++ rest) m.0 (every m.0 m.1))) in
-        let a = length-mapped source_path rs in
-        let b = length-mapped source_path (edits_of cycles ++ rest) in
+        let a = length-map rs source_path in
+        let b = length-map (edits_of cycles ++ rest) source_path in
         omega arith

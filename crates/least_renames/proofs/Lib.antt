@@ -10,3 +10,4 @@ pub mod CycleSums
 pub mod LeastLemmas
 pub mod PlanLemmas
 pub mod LawLemmas
+pub mod Examples

@@ -1,7 +1,8 @@
 -- Where each edit goes to the path of another one, whoever follows them comes back: a cycle goes through each.
-use Rattle.std.proofs.Common.{◌≡◌, ◌⊎◌, inl, inr, ℕ, zero, suc, ◌+◌, ◌≤◌, true, false, List, [], ◌∷◌, ◌++◌, map, length, refl, sym, ◌∙◌, ap, subst, arith, length-append, Option, Some, Contains}
+use Rattle.std.proofs.Common.{◌≡◌, ◌⊎◌, inl, inr, ℕ, zero, suc, ◌+◌, ◌≤◌, true, false, List, [], ◌∷◌, ◌++◌, map, length, sym, ◌∙◌, ap, subst, arith, length-append, Option, Some, Contains}
 use Rattle.std.specs.Prelude.{unwrap_or}
 use Rattle.std.proofs.lemmas.Bool.{cases_Bool}
+use Rattle.std.proofs.lemmas.List.{length-map}
 use Rattle.std.proofs.lemmas.List.Elements.{Contains-append_cases}
 use Rattle.dired_text.specs.Paths.{Names}
 use Rattle.edit_words.specs.declared.row.Row.{Row}
@@ -58,12 +59,8 @@ module _ (Moves : Row → Type 0) (moving : Moving Moves) where
       let few = fits_in (map source_path rs) paths
       (no_repeats_map source_path rs (λ x y c d same. one_source x y (move x c) (move y d) same) once)
       (λ p c. let m = contains_map_from source_path p rs c in subst (Contains paths) m.2 (within m.0 (move m.0 m.1))) in
-      let long = mapped rs in
+      let long = length-map rs source_path in
       omega arith
-    where
-      mapped : (rs : List Row) → length (map source_path rs) ≡ length rs
-      mapped [] = refl
-      mapped (r ∷ rs) = let more = mapped rs in omega arith
 
   module _ (next : (r : Row) → Moves r → (o : Row) × Moves o × (r.to ≡ o.source)) (paths : List Names) (within : (r : Row) → Moves r → Contains paths (source_path r)) where
     walk : (turns : ℕ) (d : Row) (rs : List Row) (x : Row) → length paths ≤ turns + length rs → Trail d rs x → HasNoRepeats (d ∷ rs) → ((o : Row) → Contains (d ∷ rs) o → Moves o) → Moves x → CycleThrough Moves d
