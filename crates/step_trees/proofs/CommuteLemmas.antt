@@ -1,6 +1,6 @@
 -- Two steps that are apart can be done in either order, and neither changes what a look at the other tells.
-use Rattle.std.proofs.Common.{◌≡◌, ◌≢◌, ⊎_elim, ℕ, ◌-◌, ◌==◌, Bool, true, false, cond, List, [], ◌∷◌, ◌++◌, length, take, drop, refl, sym, ◌∙◌, ap, subst, Option, Some, None, is_some, IsTrue, if◌then◌else◌, append_assoc}
-use Rattle.std.proofs.lemmas.Bool.{cond-true, cond-false, cases_Bool, eqb-true}
+use Rattle.std.proofs.Common.{◌≡◌, ◌≢◌, ⊎_elim, ℕ, ◌-◌, ◌==◌, Bool, true, false, cond, [], ◌++◌, length, drop, refl, sym, ◌∙◌, ap, Option, Some, None, is_some, if◌then◌else◌, append_assoc}
+use Rattle.std.proofs.lemmas.Bool.{cond-false, cases_Bool, eqb-true}
 use Rattle.std.proofs.lemmas.List.{take-append-drop}
 use Rattle.std.proofs.lemmas.Option.{none-some}
 use Rattle.std.specs.Option.{option_map}
@@ -9,8 +9,8 @@ use Rattle.dired_text.specs.Paths.{Names, rest_below, parent}
 use Rattle.dired_text.proofs.PathLemmas.{rest_below-append, rest_below-some, rest_below-same}
 use Rattle.tree_core.specs.declared.node.Node.{Node}
 use Rattle.tree_core.specs.declared.node.Node.TheVariants.{Dir, Link, File}
-use Rattle.tree_core.specs.FileTree.{FileTree, IsAbsent, Stands, IsDir, renamed, after_rename, set_mode_of, with_nodes, with_file_mode, is_dir_node, has_mode_node, mode_of}
-use Rattle.tree_core.proofs.TreeLemmas.{same_tree, get-with_nodes, get-renamed, tie, tie-other}
+use Rattle.tree_core.specs.FileTree.{FileTree, IsAbsent, renamed, after_rename, set_mode_of, with_nodes, with_file_mode, is_dir_node}
+use Rattle.tree_core.proofs.TreeLemmas.{same_tree, get-with_nodes, get-renamed, tie}
 use Rattle.tree_core.proofs.Sound.{shows, get-inserted, get-inserted_other, by_place}
 use Rattle.commit_steps.specs.declared.step.Step.{Step}
 use Rattle.commit_steps.specs.declared.step.Step.TheVariants.{MakeDir, Rename, Mode}

@@ -1,16 +1,16 @@
 -- A group of steps that are apart: the trees with some of them done, and what each step, done or undone, makes of such a tree.
-use Rattle.std.proofs.Common.{◌≡◌, ⊎_elim, inl, inr, ◌⊎◌, ℕ, ◌==◌, Bool, true, false, cond, List, [], ◌∷◌, refl, sym, ◌∙◌, ap, subst, Option, Some, None, is_some, IsTrue, if◌then◌else◌}
-use Rattle.std.proofs.lemmas.Bool.{cases_Bool, cond-true, cond-false, eqb-true, eq-eqb}
-use Rattle.std.proofs.lemmas.Option.{none-some, same_Some}
+use Rattle.std.proofs.Common.{◌≡◌, inl, inr, ◌⊎◌, ℕ, ◌==◌, Bool, true, false, List, [], ◌∷◌, refl, sym, ◌∙◌, ap, subst, Option, Some, None, IsTrue, if◌then◌else◌}
+use Rattle.std.proofs.lemmas.Bool.{cond-true, eqb-true, eq-eqb}
+use Rattle.std.proofs.lemmas.Option.{same_Some}
 use Rattle.std.specs.Option.{option_map}
-use Rattle.std.specs.FinMap.{get, insert}
-use Rattle.dired_text.specs.Paths.{Names, rest_below, parent}
+use Rattle.std.specs.FinMap.{get}
+use Rattle.dired_text.specs.Paths.{Names, parent}
 use Rattle.tree_core.specs.declared.node.Node.{Node}
 use Rattle.tree_core.specs.declared.node.Node.TheVariants.{Dir, Link, File}
-use Rattle.tree_core.specs.FileTree.{FileTree, IsTree, IsAbsent, Stands, IsDir, HasMode, CanDo, done, set_mode_of, with_nodes, with_file_mode, is_dir_node, has_mode_node, mode_of}
+use Rattle.tree_core.specs.FileTree.{FileTree, IsTree, IsAbsent, Stands, IsDir, done, set_mode_of, with_nodes, with_file_mode, is_dir_node, has_mode_node, mode_of}
 use Rattle.tree_core.specs.History.{is_write}
 use Rattle.tree_core.proofs.TreeLemmas.{same_tree, absent_below, absent_not, get-with_nodes}
-use Rattle.tree_core.proofs.Sound.{get-inserted, get-inserted_other, by_place, tree_kept}
+use Rattle.tree_core.proofs.Sound.{get-inserted, by_place, tree_kept}
 use Rattle.commit_steps.specs.declared.step.Step.{Step}
 use Rattle.commit_steps.specs.declared.step.Step.TheVariants.{MakeDir, Rename, Mode}
 use Rattle.step_trees.proofs.CommuteLemmas.{IsOut, apart_turned, out_of, out_parent_of, some_kept, dir_kept, number_kept, absent_there, absent_back, same_step, commute, other_turned}

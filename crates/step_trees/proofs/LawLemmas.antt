@@ -8,14 +8,14 @@ use Rattle.commit_steps.specs.declared.step.Step.{Step}
 use Rattle.commit_steps.specs.Steps.{IsLawfulStep}
 use Rattle.step_trees.specs.Apart.{AreApart}
 use Rattle.step_trees.specs.Steps.{IsStep, call_of, undo_of, step_done, after, IsBefore, IsAfter}
-use Rattle.step_trees.specs.Groups.{groups, joined, to_next_cut, ComesBySome, left_of, taken_of}
+use Rattle.step_trees.specs.Groups.{groups, to_next_cut, ComesBySome, left_of, taken_of}
 use Rattle.step_trees.specs.Leads.{start, HoldsEntries, Ends, LeadsFrom, Leads, SetOther}
 use Rattle.step_trees.specs.Laws.{LeadsByPlaces, LooksTell}
 use Rattle.step_trees.proofs.StepLemmas.{can_step}
 use Rattle.step_trees.proofs.UndoLemmas.{can_undo, undone_step}
 use Rattle.step_trees.proofs.LeadLemmas.{Led, entries_at}
 use Rattle.step_trees.proofs.CommuteLemmas.{commute}
-use Rattle.step_trees.proofs.GroupLemmas.{apart_other, before_there, before_back, after_there, after_back, clear_before, after_own, Free, IsOf, tree_comes}
+use Rattle.step_trees.proofs.GroupLemmas.{apart_other, before_there, before_back, after_there, after_back, clear_before, after_own, Free, IsOf}
 use Rattle.step_trees.proofs.ChoiceLemmas.{after_left, look_left, look_taken, not_both, of_left, of_taken}
 use Rattle.step_trees.proofs.PlaceLemmas.{inside_at, end_behind}
 
@@ -32,8 +32,7 @@ pub looks_kept : (s u : Step) (t : FileTree) → IsTree t → AreApart s u → S
     → (IsBefore u t ↔ IsBefore u (step_done s t)) × (IsAfter u t ↔ IsAfter u (step_done s t))
 looks_kept s u t tree apart other before =
     let clear = clear_before s t tree before in
-    let turned = apart_other s u apart in
-    (
+    let turned = apart_other s u apart in (
       (before_there s t clear u turned other, before_back s t clear u turned other),
       (after_there s t clear u turned other, after_back s t clear u turned other),
     )

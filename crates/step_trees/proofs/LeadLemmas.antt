@@ -1,12 +1,9 @@
 -- The trees that steps lead through.
-use Rattle.std.proofs.Common.{◌≡◌, ◌≢◌, ⊎_elim, ℕ, zero, suc, ◌+◌, ◌<◌, List, [], ◌∷◌, ◌++◌, length, take, drop, get_or, refl, sym, ◌∙◌, ap, subst, arith, Option, Some, None, is_some}
+use Rattle.std.proofs.Common.{◌≡◌, ⊎_elim, ℕ, zero, suc, ◌+◌, ◌<◌, List, [], ◌∷◌, ◌++◌, length, take, drop, get_or, refl, sym, ◌∙◌, ap, subst, arith, Option, Some, None}
 use Rattle.std.proofs.lemmas.List.{drop_more, take_more, drop_all}
 use Rattle.std.specs.FinMap.{get}
-use Rattle.dired_text.specs.Paths.{Names}
-use Rattle.dired_text.proofs.PathLemmas.{rest_below-append}
 use Rattle.tree_core.specs.declared.node.Node.{Node}
-use Rattle.tree_core.specs.FileTree.{FileTree, IsTree, IsAbsent, IsDir, CanDo, CanRename, done, renamed}
-use Rattle.tree_core.proofs.TreeLemmas.{absent_below}
+use Rattle.tree_core.specs.FileTree.{FileTree, IsAbsent, IsDir}
 use Rattle.commit_steps.specs.Staging.{staging, staged}
 use Rattle.commit_steps.specs.declared.step.Step.{Step}
 use Rattle.step_trees.proofs.NameLemmas.{IsOwn, not_held, not_temporary, not_fresh}

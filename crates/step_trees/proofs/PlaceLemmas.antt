@@ -1,10 +1,10 @@
 -- Where a place in the list of steps lies among its groups.
-use Rattle.std.proofs.Common.{◌≡◌, ⊎_elim, ℕ, zero, suc, ◌+◌, ◌-◌, ◌<◌, ◌≤◌, true, false, nat_lt, nat_le, List, [], ◌∷◌, ◌++◌, length, take, drop, refl, sym, ◌∙◌, ap, subst, arith, length-append, append_assoc}
+use Rattle.std.proofs.Common.{◌≡◌, ⊎_elim, ℕ, zero, suc, ◌+◌, ◌-◌, ◌<◌, ◌≤◌, nat_lt, nat_le, List, [], ◌∷◌, ◌++◌, length, take, drop, refl, sym, ◌∙◌, ap, subst, arith, length-append, append_assoc}
 use Rattle.std.proofs.lemmas.Bool.{cond-true, cond-false, lt-ltb, le-ltb, ltb-true, ltb-false, le-leb, lt-leb, leb-true, leb-false, cases_Bool}
-use Rattle.std.proofs.lemmas.List.{take-append-drop, append-nil, length-take-le, length-drop}
+use Rattle.std.proofs.lemmas.List.{take-append-drop, length-take-le, length-drop}
 use Rattle.std.proofs.Math.Seq.{take-append_seam, drop-append_seam, take-length}
 use Rattle.tree_core.specs.declared.node.Node.{Node}
-use Rattle.tree_core.specs.FileTree.{FileTree, IsTree}
+use Rattle.tree_core.specs.FileTree.{FileTree}
 use Rattle.commit_steps.specs.declared.step.Step.{Step}
 use Rattle.step_trees.proofs.ChoiceLemmas.{free_rest, free_first, comes_behind, all_done}
 use Rattle.step_trees.proofs.CutLemmas.{FreeGroups, free_groups, groups_groups, joined_groups}

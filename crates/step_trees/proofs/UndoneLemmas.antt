@@ -1,5 +1,5 @@
 -- A step undone, in a tree and in the tree without a path that the step does not name.
-use Rattle.std.proofs.Common.{◌≡◌, inl, inr, ℕ, List, [], ◌∷◌, ◌++◌, refl, sym, ◌∙◌, ap, subst, Option, Some, None, is_some, IsTrue}
+use Rattle.std.proofs.Common.{◌≡◌, ℕ, List, [], ◌∷◌, ◌++◌, sym, ◌∙◌, ap, subst, Option, is_some, IsTrue}
 use Rattle.std.proofs.lemmas.Option.{none-some}
 use Rattle.dired_text.specs.Paths.{Names, rest_below, parent}
 use Rattle.dired_text.proofs.PathLemmas.{rest_below-same}

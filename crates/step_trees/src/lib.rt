@@ -5,6 +5,6 @@
 mod laws;
 
 pub use laws::{
-    groups_are_cut, looks_are_kept, looks_tell_which_were_done, places_are_led,
-    steps_can_be_done, steps_can_be_exchanged, steps_can_be_undone,
+    groups_are_cut, looks_are_kept, looks_tell_which_were_done, places_are_led, steps_can_be_done,
+    steps_can_be_exchanged, steps_can_be_undone,
 };
