@@ -1,0 +1,17 @@
+pub mod OwnNames
+pub mod StandLemmas
+pub mod WayBackLemmas
+pub mod WithinLemmas
+pub mod LoopLemmas
+pub mod BackLemmas
+pub mod CloseLemmas
+pub mod SealLemmas
+pub mod StageLemmas
+pub mod FinishLemmas
+pub mod CommitLemmas
+pub mod ReturnLemmas
+pub mod ResumeLemmas
+pub mod HaltLemmas
+pub mod UnstageLemmas
+pub mod UncleanLemmas
+pub mod LawLemmas

@@ -1,0 +1,4 @@
+pub mod Interrupted
+pub mod Calls
+pub mod Fits
+pub mod Laws

@@ -1,0 +1,9 @@
+//! What an interrupted commit leaves, as a table of six rows, and the lists of calls of a commit, of its way back and of recovery,
+//! which leave nothing else at any moment.
+#![tactic(auto)]
+
+mod held;
+mod laws;
+
+pub use held::Held;
+pub use laws::commits_are_safe;
