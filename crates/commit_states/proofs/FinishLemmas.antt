@@ -11,7 +11,7 @@ use Rattle.commit_states.proofs.CloseLemmas.{can_seal, sealed_clearing, Sealed, 
 use Rattle.commit_states.proofs.LoopLemmas.{Ready, forward_at}
 use Rattle.commit_states.proofs.SealLemmas.{mk, own, sealed_plan, plan_mk, sealed_mk, less_held, carry_held, held_others, sealed_gives, last_gives}
 use Rattle.commit_states.specs.Calls.{seal_calls, Cleans, held_items, removals, last_calls, cleaning_calls}
-use Rattle.commit_states.specs.Interrupted.{StandsAfter, IsInterrupted, forward}
+use Rattle.commit_states.specs.Interrupted.{StandsAfter, IsInterrupted}
 use Rattle.commit_states.specs.declared.held.Held.{Held}
 use Rattle.commit_steps.specs.Staging.{staged, plan, sealed, at_marker}
 use Rattle.commit_steps.specs.declared.step.Step.{Step}

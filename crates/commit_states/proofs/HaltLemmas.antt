@@ -1,5 +1,5 @@
 -- A call among the steps failed: which marker stands, and which steps of its group are done.
-use Rattle.std.proofs.Common.{◌≡◌, ◌≢◌, ◌⊎◌, inl, inr, ⊎_elim, ℕ, ◌+◌, ◌≤◌, ◌<◌, ◌^◌, List, [], ◌∷◌, ◌++◌, length, take, refl, sym, ◌∙◌, ap, subst, arith}
+use Rattle.std.proofs.Common.{◌≡◌, ◌⊎◌, inl, inr, ⊎_elim, ℕ, ◌+◌, ◌≤◌, ◌<◌, ◌^◌, List, [], ◌∷◌, ◌++◌, length, take, refl, sym, subst, arith}
 use Rattle.tree_core.specs.declared.node.Node.{Node}
 use Rattle.tree_core.specs.declared.node.Change.{Change}
 use Rattle.tree_core.specs.declared.node.Change.TheVariants as call
@@ -8,9 +8,9 @@ use Rattle.tree_core.specs.FileTree.{FileTree}
 use Rattle.tree_core.specs.History.{History, Then, IsSound, current_tree, IsDurable, LeavesOnly}
 use Rattle.tree_core.specs.Runs.{then_all, FailedIn, FailedCall}
 use Rattle.tree_core.proofs.Moments.{durable-sync, goes_on-sync, Pending}
-use Rattle.tree_core.proofs.Runs.{IsSafe, safe_failed, closed_failed, closed_can, sound_all}
+use Rattle.tree_core.proofs.Runs.{safe_failed, closed_failed, closed_can, sound_all}
 use Rattle.tree_core.proofs.Sound.{sound_then}
-use Rattle.commit_states.proofs.LoopLemmas.{Ready, one_group, left, Q, did, pending, mid, is_mid, sound_mid, stands_mid, mark, can_next, marked, both, safe_both}
+use Rattle.commit_states.proofs.LoopLemmas.{Ready, one_group, left, Q, did, pending, is_mid, sound_mid, stands_mid, can_next, marked, safe_both}
 use Rattle.commit_states.specs.Calls.{do_calls, marked_calls, group_calls, calls_from}
 use Rattle.commit_states.specs.Interrupted.{StandsAs, IsInterrupted, forward}
 use Rattle.commit_steps.specs.Staging.{staged, at_marker}

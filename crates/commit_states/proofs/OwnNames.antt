@@ -1,15 +1,15 @@
 -- The names of journals, markers and fresh entries are names.
-use Rattle.std.proofs.Common.{◌≡◌, ℕ, zero, suc, ◌+◌, ◌≤◌, ◌<◌, ◌^◌, Bool, true, false, not, ◌&&◌, nat_le, nat_lt, List, [], ◌∷◌, ◌++◌, length, length-append, refl, sym, ◌∙◌, ap, subst, arith, IsTrue}
+use Rattle.std.proofs.Common.{◌≡◌, ℕ, zero, suc, ◌≤◌, ◌<◌, ◌^◌, Bool, true, false, not, ◌&&◌, nat_le, nat_lt, List, [], ◌∷◌, ◌++◌, length, refl, ap, arith}
 use Rattle.std.proofs.lemmas.Bool.{le-leb}
 use Rattle.std.proofs.lemmas.Fmt.{IsAscii-decimal}
 use Rattle.std.proofs.lemmas.Str.{IsUtf8-from_ascii, IsUtf8-append, is_utf8-from_IsUtf8}
 use Rattle.std.proofs.lemmas.Str.Ascii.{IsAscii-nil}
 use Rattle.std.proofs.lemmas.Bool.Decides.{nat_tests}
 use Rattle.std.specs.List.{list_all}
-use Rattle.std.specs.Prelude.{codes, decimal, slice_index}
+use Rattle.std.specs.Prelude.{codes, decimal}
 use Rattle.std.specs.Str.{IsUtf8, IsAscii, is_utf8}
 use Rattle.dired_text.specs.Paths.{AreNames, is_name, is_name_byte, is_dots}
-use Rattle.commit_steps.specs.Numbers.{is_digit, is_decimal, is_number}
+use Rattle.commit_steps.specs.Numbers.{is_digit, is_decimal}
 use Rattle.commit_steps.specs.Staging.{staging, staging_name, staged, at_marker, back_marker, fresh_name, new_journal, plan, sealed, undone}
 use Rattle.commit_steps.proofs.NumberLemmas.{Digits, decimal_is, number_holds}
 

@@ -19,7 +19,7 @@ use Rattle.tree_core.proofs.Moments.{durable-sync, Keeps, Pending, pending-durab
 use Rattle.tree_core.proofs.Runs.{IsSafe, IsClosed, closed_append, closed_synced, closed_pending, closed_can, safe_append, safe_all, sound_all, single_synced, then_all-append}
 use Rattle.commit_states.proofs.LoopLemmas.{Ready, forward_at}
 use Rattle.commit_states.specs.Calls.{fresh_call, fresh_calls, node_or, fresh_node, fresh_nodes, number_behind, IsLawfulFresh, AreLawfulFresh, stage_calls, plan_calls}
-use Rattle.commit_states.specs.Interrupted.{bare, IsOne, IsJournalText, StandsAfter, IsInterrupted, nothing_staged, no_journal, forward}
+use Rattle.commit_states.specs.Interrupted.{bare, IsOne, IsJournalText, StandsAfter, IsInterrupted, nothing_staged, no_journal}
 use Rattle.commit_steps.specs.Staging.{staging, staged, plan, new_journal, at_marker, fresh_name}
 use Rattle.commit_steps.specs.declared.step.Step.{Step}
 use Rattle.step_trees.proofs.NameLemmas.{apart_staged, differ, i-plan, i-at, i-new, i-fresh, fresh_injects}

@@ -12,7 +12,7 @@ use Rattle.commit_states.proofs.FinishLemmas.{safe_finish_as}
 use Rattle.commit_states.proofs.LoopLemmas.{Ready, forward_at}
 use Rattle.commit_states.proofs.SealLemmas.{mk, own, sealed_plan, plan_mk, sealed_mk, less_held}
 use Rattle.commit_states.specs.Calls.{seal_calls, Cleans, cleaning_calls}
-use Rattle.commit_states.specs.Interrupted.{StandsAfter, nothing_staged, no_journal, forward, behind_seal, GoesForward}
+use Rattle.commit_states.specs.Interrupted.{StandsAfter, nothing_staged, no_journal, behind_seal, GoesForward}
 use Rattle.commit_states.specs.declared.held.Held.{Held}
 use Rattle.commit_steps.specs.Staging.{at_marker, sealed}
 use Rattle.commit_steps.specs.declared.step.Step.{Step}

@@ -1,11 +1,6 @@
 -- A step undone, in a tree in which a journal and a marker stand.
-use Rattle.std.proofs.Common.{◌≡◌, inl, inr, ℕ, List, [], ◌∷◌, ◌++◌, refl, sym, ◌∙◌, ap, subst, Option, Some, None, is_some, IsTrue}
-use Rattle.std.proofs.lemmas.Option.{none-some}
-use Rattle.dired_text.specs.Paths.{Names, rest_below, parent}
-use Rattle.dired_text.proofs.PathLemmas.{rest_below-same}
-use Rattle.tree_core.specs.declared.node.Node.{Node}
-use Rattle.tree_core.specs.FileTree.{FileTree, IsTree, CanDo, done, has_mode_node}
-use Rattle.tree_core.proofs.TreeLemmas.{absent_below}
+use Rattle.std.proofs.Common.{ℕ, List, sym, ◌∙◌, ap, subst}
+use Rattle.tree_core.specs.FileTree.{FileTree, IsTree, CanDo, done}
 use Rattle.commit_states.proofs.StandLemmas.{journal_kept}
 use Rattle.commit_states.specs.Interrupted.{StandsAs}
 use Rattle.commit_steps.specs.Staging.{staged, plan}

@@ -1,10 +1,8 @@
 -- The steps of a group, done or undone, in the tree with its journal and marker.
-use Rattle.std.proofs.Common.{◌≡◌, ◌≢◌, ◌⊎◌, inl, inr, ℕ, false, List, [], ◌∷◌, ◌++◌, refl, sym, ◌∙◌, ap, subst, Some, None, is_some, IsTrue, Option}
+use Rattle.std.proofs.Common.{◌≡◌, ◌≢◌, inl, inr, ℕ, false, List, [], ◌∷◌, ◌++◌, refl, sym, ◌∙◌, ap, subst, None, is_some}
 use Rattle.std.specs.FinMap.{get}
 use Rattle.dired_text.specs.Paths.{Names, rest_below}
-use Rattle.tree_core.specs.declared.node.Node.{Node}
-use Rattle.tree_core.specs.declared.node.Change.{Change}
-use Rattle.tree_core.specs.FileTree.{FileTree, IsTree, IsAbsent, IsDir, Stands, CanDo, done, is_dir_node}
+use Rattle.tree_core.specs.FileTree.{FileTree, IsTree, CanDo, done, is_dir_node}
 use Rattle.tree_core.specs.History.{History, Then, IsSound, current_tree, next_number, is_sync, is_write}
 use Rattle.tree_core.specs.Runs.{then_all}
 use Rattle.tree_core.proofs.Moments.{Keeps, applied-is}

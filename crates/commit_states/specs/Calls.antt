@@ -1,5 +1,5 @@
 -- The changing calls of a commit, in order.
-use Rattle.std.specs.Prelude.{ℕ, ◌+◌, ◌-◌, List, [], ◌∷◌, ◌++◌, length, take, drop, ◌==◌, if◌then◌else◌, Bool, true, false, Option, Some, None, IsTrue}
+use Rattle.std.specs.Prelude.{ℕ, ◌+◌, ◌-◌, List, [], ◌∷◌, ◌++◌, length, ◌==◌, if◌then◌else◌, Bool, true, false, Option, Some, None, IsTrue}
 use Rattle.std.specs.FinMap.{get, remove}
 use Rattle.std.specs.Str.{is_utf8}
 use Rattle.dired_text.specs.Paths.{Names}
