@@ -57,7 +57,7 @@ module _ (steps : List Step) (fs : List Fresh) (journal : List ℕ) (hs : List H
   abbrev h2 : History
   h2 = then_all h1 (calls_from 0 (groups steps))
 
-  leads : Led steps old new nodes
+  pub leads : Led steps old new nodes
   leads = led steps old new nodes fits.leads fits.journal_is.journal.spelled.paths
 
   journal_is : IsJournalText steps journal
@@ -66,10 +66,10 @@ module _ (steps : List Step) (fs : List Fresh) (journal : List ℕ) (hs : List H
   safe1 : IsSafe o P h0 (staging_calls fs journal)
   safe1 = safe_planned steps new fs journal o durable sound fits.absent fits.lawful fits.few_fresh journal_is leads
 
-  ready1 : Ready steps old new nodes o h1 0
+  pub ready1 : Ready steps old new nodes o h1 0
   ready1 = first_ready steps new fs journal o durable sound fits.absent fits.lawful fits.few_fresh journal_is leads
 
-  gone : Gone steps old new nodes leads fits.few_steps o h1 0 (groups steps)
+  pub gone : Gone steps old new nodes leads fits.few_steps o h1 0 (groups steps)
   gone = go steps old new nodes leads fits.few_steps o (groups steps) h1 0 (all_remain steps old new nodes leads) ready1
 
   safe_end : IsSafe o P h2 (seal_calls ++ cleaning_calls hs (length steps))

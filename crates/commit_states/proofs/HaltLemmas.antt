@@ -12,6 +12,7 @@ use Rattle.tree_core.proofs.Runs.{safe_failed, closed_failed, closed_can, sound_
 use Rattle.tree_core.proofs.Sound.{sound_then}
 use Rattle.commit_states.proofs.LoopLemmas.{Ready, one_group, left, Q, did, pending, is_mid, sound_mid, stands_mid, can_next, marked, safe_both}
 use Rattle.commit_states.specs.Calls.{do_calls, marked_calls, group_calls, calls_from}
+use Rattle.commit_states.specs.Laws.{Halted}
 use Rattle.commit_states.specs.Interrupted.{StandsAs, IsInterrupted, forward}
 use Rattle.commit_steps.specs.Staging.{staged, at_marker}
 use Rattle.commit_steps.specs.declared.step.Step.{Step}
@@ -21,16 +22,6 @@ use Rattle.step_trees.specs.Groups.{groups, to_next_cut, ComesBySome}
 use Rattle.step_trees.specs.Leads.{start}
 use Rattle.step_trees.specs.Steps.{after}
 use Rattle.step_trees.proofs.LeadLemmas.{Led}
-
--- `plan` and `at-m` stand, and any of the steps from m to the next cut are done
-pub record Halted (steps : List Step) (old new : FileTree) (fresh : List Node) (o now : History) : Type 0 where
-  pub m : ℕ
-  pub u : FileTree
-  pub le : m ≤ length steps
-  pub comes : ComesBySome (to_next_cut m (groups steps)) (after (take m steps) (start old fresh)) u
-  pub stands : StandsAs steps (at_marker m) u (current_tree now)
-  pub moments : LeavesOnly o now (IsInterrupted steps old new fresh)
-  pub sound : IsSound now
 
 split_failed : (cs ds : List Change) (h last : History) (before : FileTree) (first : CallName) → FailedIn (cs ++ ds) h last before first → FailedIn cs h last before first ⊎ FailedIn ds (then_all h cs) last before first
 split_failed [] ds h last before first failed = inr failed

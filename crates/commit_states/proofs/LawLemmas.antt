@@ -1,31 +1,115 @@
 -- The laws of safe lists of calls, put together.
-use Rattle.std.proofs.Common.{◌≡◌, ℕ, ◌+◌, List}
+use Rattle.std.proofs.Common.{◌≡◌, ℕ, ◌+◌, ◌<◌, ◌^◌, List, ◌∷◌, ◌++◌, length, take}
+use Rattle.std.specs.List.{AllByRecursion}
 use Rattle.tree_core.specs.declared.changes.Fresh.{Fresh}
+use Rattle.tree_core.specs.declared.node.Node.{Node}
 use Rattle.tree_core.specs.declared.node.Change.{Change}
-use Rattle.tree_core.specs.FileTree.{FileTree}
-use Rattle.tree_core.specs.History.{History, IsSound, current_tree, next_number, IsDurable}
-use Rattle.tree_core.specs.Runs.{then_all}
+use Rattle.tree_core.specs.declared.node.Change.TheVariants as call
+use Rattle.tree_core.specs.declared.node.CallName.{CallName}
+use Rattle.tree_core.specs.FileTree.{FileTree, IsTree, IsAbsent}
+use Rattle.tree_core.specs.History.{History, Then, IsSound, current_tree, next_number, IsCrashState, IsDurable}
+use Rattle.tree_core.specs.Runs.{then_all, FailedIn}
 use Rattle.tree_core.proofs.Runs.{IsSafe, safe_all, safe_can, safe_failed}
 use Rattle.commit_steps.specs.declared.step.Step.{Step}
+use Rattle.commit_steps.specs.Staging.{staging}
+use Rattle.commit_steps.specs.Steps.{HasPaths}
+use Rattle.step_trees.specs.Steps.{after}
+use Rattle.step_trees.specs.Groups.{groups, to_next_cut, from_last_cut, left_of, taken_of}
+use Rattle.step_trees.specs.Leads.{start, Leads}
+use Rattle.step_trees.proofs.LeadLemmas.{Led, led}
+use Rattle.step_trees.proofs.PlaceLemmas.{all_remain}
 use Rattle.commit_states.specs.declared.held.Held.{Held}
-use Rattle.commit_states.specs.Interrupted.{IsInterrupted}
-use Rattle.commit_states.specs.Calls.{fresh_nodes, commit_calls}
+use Rattle.commit_states.specs.Interrupted.{StandsAs, IsInterrupted, GoesForward}
+use Rattle.commit_states.specs.Calls.{fresh_nodes, commit_calls, calls_from, resume_calls, seal_calls, cleaning_calls, Cleans, turn_calls, home_calls, end_calls, fresh_items, CleansItems}
 use Rattle.commit_states.specs.Fits.{Fits}
-use Rattle.commit_states.specs.Laws.{LeadsSafely}
-use Rattle.commit_states.proofs.CommitLemmas.{safe_commit, done_commit}
+use Rattle.commit_states.specs.Laws.{LeadsSafely, Halted, Turned, TurnsRound, staged_history, stepped_history}
+use Rattle.commit_states.proofs.CommitLemmas.{safe_commit, done_commit, leads, ready1, gone}
+use Rattle.commit_states.proofs.HaltLemmas.{halted}
+use Rattle.commit_states.proofs.ResumeLemmas.{safe_forward, done_forward}
+use Rattle.commit_states.proofs.ReturnLemmas.{safe_back, done_back, at_turn, safe_back_at, done_back_at}
+use Rattle.commit_states.proofs.UncleanLemmas.{unclean}
 
-pub leads_safely : (P : FileTree → Type 0) (target : FileTree) (o : History) (changes : List Change) → IsSafe o P o changes
-    → (current_tree (then_all o changes) ≡ target) × IsDurable (then_all o changes) → LeadsSafely P target o changes
-leads_safely P target o changes safe ends = record {
-  can = safe_can o P o changes safe;
-  moments = safe_all o P o changes safe;
-  failed = λ last before first failed. safe_failed o P o last before first changes safe failed;
+pub leads_safely : (P : FileTree → Type 0) (target : FileTree) (began now : History) (changes : List Change) → IsSafe began P now changes
+    → (current_tree (then_all now changes) ≡ target) × IsDurable (then_all now changes) → LeadsSafely P target began now changes
+leads_safely P target began now changes safe ends = record {
+  can = safe_can began P now changes safe;
+  moments = safe_all began P now changes safe;
+  failed = λ last before first failed. safe_failed began P now last before first changes safe failed;
   target_stands = ends.0;
   durable = ends.1;
 }
 
-pub commit_leads : (steps : List Step) (fs : List Fresh) (journal : List ℕ) (hs : List Held) (new : FileTree) (o : History) → IsDurable o → IsSound o
-    → Fits steps fs journal hs new (current_tree o) (next_number o)
-    → LeadsSafely (IsInterrupted steps (current_tree o) new (fresh_nodes (current_tree o) (next_number o + 1) fs)) new o (commit_calls steps fs journal hs)
-commit_leads steps fs journal hs new o durable sound fits = leads_safely _ new o (commit_calls steps fs journal hs)
-    (safe_commit steps fs journal hs new o durable sound fits) (done_commit steps fs journal hs new o durable sound fits)
+-- ---- a commit
+
+module _ (steps : List Step) (fs : List Fresh) (journal : List ℕ) (hs : List Held) (new : FileTree) (o : History) (durable : IsDurable o) (sound : IsSound o)
+    (fits : Fits steps fs journal hs new (current_tree o) (next_number o)) where
+  abbrev nodes : List Node
+  nodes = fresh_nodes (current_tree o) (next_number o + 1) fs
+
+  pub commit_leads : LeadsSafely (IsInterrupted steps (current_tree o) new nodes) new o o (commit_calls steps fs journal hs)
+  commit_leads = leads_safely (IsInterrupted steps (current_tree o) new nodes) new o o (commit_calls steps fs journal hs)
+      (safe_commit steps fs journal hs new o durable sound fits) (done_commit steps fs journal hs new o durable sound fits)
+
+  lead : Led steps (current_tree o) new nodes
+  lead = leads steps fs journal hs new o durable sound fits
+
+  pub steps_halt : (last : History) (before : FileTree) (first : CallName) → FailedIn (calls_from 0 (groups steps)) (staged_history fs journal o) last before first
+      → Halted steps (current_tree o) new nodes o last
+  steps_halt last before first failed = halted steps (current_tree o) new nodes lead fits.few_steps o (groups steps) (staged_history fs journal o) 0 last before first
+      (all_remain steps (current_tree o) new nodes lead) (ready1 steps fs journal hs new o durable sound fits) failed
+
+  pub seals_go_forward : (last : History) (before : FileTree) (first : CallName) → FailedIn (seal_calls ++ cleaning_calls hs (length steps)) (stepped_history steps fs journal o) last before first
+      → (c : FileTree) → IsCrashState last c → GoesForward steps (current_tree o) new nodes c
+  seals_go_forward last before first failed c left = unclean steps (current_tree o) new nodes lead hs fits.cleans o (stepped_history steps fs journal o)
+      (gone steps fs journal hs new o durable sound fits).ready last before first failed c left
+
+-- ---- from a marker on
+
+-- the journal tells that the paths of the steps are paths, and how many these are
+paths_of_journal : (steps : List Step) (marker : List ℕ) (u t : FileTree) → StandsAs steps marker u t → AllByRecursion HasPaths steps
+paths_of_journal steps marker u t s = s.journal.spelled.journal.journal.spelled.paths
+
+few_of_journal : (steps : List Step) (marker : List ℕ) (u t : FileTree) → StandsAs steps marker u t → length steps < 2 ^ 32
+few_of_journal steps marker u t s = s.journal.spelled.journal.journal.few
+
+module _ (steps : List Step) (old new : FileTree) (fresh : List Node) where
+  abbrev P : FileTree → Type 0
+  P = IsInterrupted steps old new fresh
+
+  pub go_forward : (hs : List Held) (began now : History) → Leads steps old new fresh → Cleans hs (after (take (length steps) steps) (start old fresh)) → (h : Halted steps old new fresh began now)
+      → LeadsSafely P new began now
+      (call.Sync ∷ (resume_calls steps h.m (left_of (to_next_cut h.m (groups steps)) (after (take h.m steps) (start old fresh)) h.u h.comes) ++ (seal_calls ++ cleaning_calls hs (length steps))))
+  go_forward hs began now leads cleans h =
+      let l = led steps old new fresh leads (paths_of_journal steps _ h.u (current_tree now) h.stands) in
+      let few = few_of_journal steps _ h.u (current_tree now) h.stands in
+      leads_safely P new began now
+      (call.Sync ∷ (resume_calls steps h.m (left_of (to_next_cut h.m (groups steps)) (after (take h.m steps) (start old fresh)) h.u h.comes) ++ (seal_calls ++ cleaning_calls hs (length steps))))
+      (safe_forward steps old new fresh l few began now h.moments h.sound hs cleans h.m h.u h.le h.comes h.stands)
+      (done_forward steps old new fresh l few began now h.moments h.sound hs cleans h.m h.u h.le h.comes h.stands)
+
+  module _ (fs : List Fresh) (began now : History) (leads : Leads steps old new fresh) (tree : IsTree old) (absent : IsAbsent old staging) (cleans : CleansItems (fresh_items 0 fs) (start old fresh)) where
+    pub turned_go_back : (b : Turned steps old new fresh began now) → LeadsSafely P old began now
+        (call.Sync ∷ (home_calls steps b.m (taken_of (from_last_cut b.m (groups steps)) (after (take b.k steps) (start old fresh)) b.u b.comes) ++ end_calls fs))
+    turned_go_back b =
+        let l = led steps old new fresh leads (paths_of_journal steps _ b.u (current_tree now) b.stands) in
+        let few = few_of_journal steps _ b.u (current_tree now) b.stands in
+        leads_safely P old began now
+        (call.Sync ∷ (home_calls steps b.m (taken_of (from_last_cut b.m (groups steps)) (after (take b.k steps) (start old fresh)) b.u b.comes) ++ end_calls fs))
+        (safe_back steps old new fresh l few tree absent fs cleans began now b.moments b.sound b.k b.m b.u b.le b.cut b.comes b.stands)
+        (done_back steps old new fresh l few tree absent fs cleans began now b.moments b.sound b.k b.m b.u b.le b.cut b.comes b.stands)
+
+    pub halts_go_back : (h : Halted steps old new fresh began now)
+        → (t : TurnsRound steps old fresh h.m h.u (taken_of (to_next_cut h.m (groups steps)) (after (take h.m steps) (start old fresh)) h.u h.comes))
+        × LeadsSafely P old began now
+        (call.Sync ∷ (turn_calls h.m t.j ++ (home_calls steps t.j (taken_of (from_last_cut t.j (groups steps)) (after (take t.k steps) (start old fresh)) h.u t.comes) ++ end_calls fs)))
+    halts_go_back h =
+        let l = led steps old new fresh leads (paths_of_journal steps _ h.u (current_tree now) h.stands) in
+        let few = few_of_journal steps _ h.u (current_tree now) h.stands in
+        let t = at_turn steps old new fresh l few tree absent fs cleans began now h.moments h.sound h.m h.u h.le h.comes h.stands in
+        (
+          record { j = t.j; j_is = t.j_is; k = t.k; cut = t.cut; comes = t.comes },
+          leads_safely P old began now
+              (call.Sync ∷ (turn_calls h.m t.j ++ (home_calls steps t.j (taken_of (from_last_cut t.j (groups steps)) (after (take t.k steps) (start old fresh)) h.u t.comes) ++ end_calls fs)))
+              (safe_back_at steps old new fresh l few tree absent fs cleans began now h.moments h.sound h.m h.u h.le h.comes h.stands)
+              (done_back_at steps old new fresh l few tree absent fs cleans began now h.moments h.sound h.m h.u h.le h.comes h.stands),
+        )

@@ -9,12 +9,13 @@ use Rattle.tree_core.specs.FileTree.{FileTree, IsTree, IsAbsent, CanDo, renamed}
 use Rattle.tree_core.specs.History.{History, Then, IsSound, current_tree, IsDurable, LeavesOnly, IsCrashState}
 use Rattle.tree_core.specs.Runs.{then_all}
 use Rattle.tree_core.proofs.Moments.{durable-sync, Pending, pending-durable, started, goes_on-sync}
+use Rattle.tree_core.proofs.Sound.{sound_then}
 use Rattle.tree_core.proofs.Runs.{IsSafe, closed_synced, safe_append, safe_all, safe_can, sound_all, single_synced, then_all-append}
 use Rattle.commit_states.proofs.BackLemmas.{Returning, back_at, Home, home, safe_turn, turned, safe_turn_some, some_turned}
 use Rattle.commit_states.proofs.CloseLemmas.{can_seal, sealed_clearing, Sealed, Clearing, Cleared, clear_all, Last, IsLast, closed_last, all_gone}
 use Rattle.commit_states.proofs.CommitLemmas.{edited_by-none}
 use Rattle.commit_states.proofs.SealLemmas.{back0, undone_plan, plan_back0, undone_back0, Fresh_, less_fresh, carry_fresh, fresh_others, undone_gives, old_gives, start_only}
-use Rattle.commit_states.specs.Calls.{CleansItems, fresh_items, removals_of, last_of, turn_calls, revoke_calls, clearing_calls, home_calls, end_calls}
+use Rattle.commit_states.specs.Calls.{turn_place, CleansItems, fresh_items, removals_of, last_of, turn_calls, revoke_calls, clearing_calls, home_calls, end_calls}
 use Rattle.commit_states.specs.Interrupted.{StandsAs, StandsAfter, IsInterrupted, back, forward}
 use Rattle.commit_steps.specs.Staging.{staging, staged, plan, undone, at_marker, back_marker}
 use Rattle.commit_steps.specs.declared.step.Step.{Step}
@@ -115,103 +116,97 @@ module _ (steps : List Step) (old new : FileTree) (nodes : List Node) (leads : L
     pub done_way : (current_tree (then_all now (way ++ end_calls fs)) ≡ old) × IsDurable (then_all now (way ++ end_calls fs))
     done_way = subst (λ (h : History). (current_tree h ≡ old) × IsDurable h) (sym (then_all-append now way (end_calls fs))) (old_again (then_all now way) came.returning)
 
-  -- The whole recovery of a tree that reads so, where all that a crash may leave before it is interrupted.
-  module _ (sound : IsSound o) (each : (c : FileTree) → IsCrashState o c → P c) (k m : ℕ) (u : FileTree) (le : m ≤ length steps) (cut : m ≡ k + length (from_last_cut m (groups steps)))
-      (comes : ComesBySome (from_last_cut m (groups steps)) (place k) u) (s : StandsAs steps (back_marker m) u (current_tree o)) where
+  -- The whole of it, behind a sync.
+  module _ (now : History) (moments : LeavesOnly o now P) (sound : IsSound now) (k m : ℕ) (u : FileTree) (le : m ≤ length steps) (cut : m ≡ k + length (from_last_cut m (groups steps)))
+      (comes : ComesBySome (from_last_cut m (groups steps)) (place k) u) (s : StandsAs steps (back_marker m) u (current_tree now)) where
     abbrev synced : History
-    synced = Then o call.Sync
+    synced = Then now call.Sync
 
-    first_left : LeavesOnly o o P
-    first_left = started o P each
+    synced_moments : LeavesOnly o synced P
+    synced_moments = goes_on-sync o now P moments (back leads.leads k m u le cut comes s)
 
-    second_left : LeavesOnly o synced P
-    second_left = goes_on-sync o o P first_left (back leads.leads k m u le cut comes s)
-
-    abbrev way_back : List Change
+    abbrev pub way_back : List Change
     way_back = home_calls steps m (taken_of (from_last_cut m (groups steps)) (place k) u comes) ++ end_calls fs
 
-    pub safe_back : IsSafe o P o (call.Sync ∷ way_back)
-    safe_back = (first_left, tt, safe_way synced k m u le cut comes second_left (durable-sync o) record { allowed = (tt, sound.allowed); tree = sound.tree; texts = sound.texts; above = sound.above } s)
+    -- A crash at any moment of it leaves an interrupted tree.
+    pub safe_back : IsSafe o P now (call.Sync ∷ way_back)
+    safe_back = (moments, tt, safe_way synced k m u le cut comes synced_moments (durable-sync now) (sound_then call.Sync now sound tt) s)
 
+    -- Behind it the old tree stands, and nothing is pending.
     pub done_back : (current_tree (then_all synced way_back) ≡ old) × IsDurable (then_all synced way_back)
-    done_back = done_way synced k m u le cut comes second_left (durable-sync o) record { allowed = (tt, sound.allowed); tree = sound.tree; texts = sound.texts; above = sound.above } s
+    done_back = done_way synced k m u le cut comes synced_moments (durable-sync now) (sound_then call.Sync now sound tt) s
 
   -- ---- from `at-m` on, where any of the steps from m to the next cut are done
 
-  -- the turn of the marker, and what stands behind it
-  pub record Turned (now : History) (m : ℕ) : Type 0 where
+  -- the turn of the marker, and what stands behind it, where `taken` of the steps from m to the next cut were done
+  pub record Turned (now : History) (m : ℕ) (u : FileTree) (taken : List Step) : Type 0 where
     pub j : ℕ
+    pub j_is : j ≡ turn_place steps m taken
     pub k : ℕ
-    pub u : FileTree
     pub le : j ≤ length steps
     pub cut : j ≡ k + length (from_last_cut j (groups steps))
     pub comes : ComesBySome (from_last_cut j (groups steps)) (place k) u
     pub safe : IsSafe o P now (turn_calls m j)
     pub stands : StandsAs steps (back_marker j) u (current_tree (then_all now (turn_calls m j)))
-    -- the next cut, or m itself
-    pub j_is : (j ≡ m) ⊎ (j ≡ m + length (to_next_cut m (groups steps)))
 
-  module _ (now : History) (m : ℕ) (moments : LeavesOnly o now P) (durable : IsDurable now) (sound : IsSound now) where
-    turned_none : m ≤ length steps → StandsAfter steps old nodes (at_marker m) m (current_tree now) → Turned now m
-    turned_none le s =
+  module _ (now : History) (m : ℕ) (u : FileTree) (moments : LeavesOnly o now P) (durable : IsDurable now) (sound : IsSound now) (s : StandsAs steps (at_marker m) u (current_tree now)) where
+    turned_none : (taken : List Step) → m ≤ length steps → u ≡ place m → m ≡ turn_place steps m taken → Turned now m u taken
+    turned_none taken le u_is m_is =
         let c = cut_of steps old new nodes leads m le in
+        let here : StandsAfter steps old nodes (at_marker m) m (current_tree now) = subst (λ v. StandsAs steps (at_marker m) v (current_tree now)) u_is s in
         record {
           j = m;
+          j_is = m_is;
           k = c.k;
-          u = place m;
           le = le;
           cut = c.cut;
-          comes = c.all;
-          safe = safe_turn steps old new nodes leads few o now m moments durable sound le s;
-          stands = turned steps old new nodes leads few o now m moments durable sound le s;
-          j_is = inl refl;
+          comes = subst (ComesBySome (from_last_cut m (groups steps)) (place c.k)) (sym u_is) c.all;
+          safe = safe_turn steps old new nodes leads few o now m moments durable sound le here;
+          stands = subst (λ v. StandsAs steps (back_marker m) v (current_tree (then_all now (turn_calls m m)))) (sym u_is) (turned steps old new nodes leads few o now m moments durable sound le here);
         }
 
-    turned_some : (u : FileTree) → Inside steps old new nodes leads m → ComesBySome (to_next_cut m (groups steps)) (place m) u → StandsAs steps (at_marker m) u (current_tree now) → Turned now m
-    turned_some u i comes s =
+    turned_some : (x : Step) (xs : List Step) → Inside steps old new nodes leads m → ComesBySome (to_next_cut m (groups steps)) (place m) u → Turned now m u (x ∷ xs)
+    turned_some x xs i comes =
         let some : ComesBySome i.g (place m) u = subst (λ l. ComesBySome l (place m) u) i.stretch.is comes in
         record {
           j = i.from + length i.whole;
+          j_is = sym i.next ∙ ap (λ l. m + length l) (sym i.stretch.is);
           k = i.from;
-          u = u;
           le = i.back.within;
           cut = sym (ap (λ l. i.from + length l) i.back.is);
           comes = subst (λ l. ComesBySome l (place i.from) u) (sym i.back.is) (i.widen u some);
           safe = safe_turn_some steps old new nodes leads few o now m moments durable sound i u some s;
           stands = some_turned steps old new nodes leads few o now m moments durable sound i u some s;
-          j_is = inr (sym i.next ∙ ap (λ l. m + length l) (sym i.stretch.is));
         }
 
-    -- where none was done the marker stays at m, as the rule has it; else it goes to the next cut
-    pub turn : (u : FileTree) → m ≤ length steps → (comes : ComesBySome (to_next_cut m (groups steps)) (place m) u) → StandsAs steps (at_marker m) u (current_tree now) → Turned now m
-    turn u le comes s = by_taken (taken_of (to_next_cut m (groups steps)) (place m) u comes) refl
+    -- where none was done the marker stays at m; else it goes to the next cut
+    pub turn : m ≤ length steps → (comes : ComesBySome (to_next_cut m (groups steps)) (place m) u) → Turned now m u (taken_of (to_next_cut m (groups steps)) (place m) u comes)
+    turn le comes = by_taken (taken_of (to_next_cut m (groups steps)) (place m) u comes) refl
       where
-        at_end : m ≡ length steps → Turned now m
-        at_end is =
+        at_end : (x : Step) (xs : List Step) → m ≡ length steps → Turned now m u (x ∷ xs)
+        at_end x xs is =
             let none : to_next_cut m (groups steps) ≡ [] = ap (λ n. to_next_cut n (groups steps)) is ∙ end_behind steps old new nodes leads in
-            let u_is : u ≡ place m = subst (λ l. ComesBySome l (place m) u) none comes in
-            turned_none le (subst (λ v. StandsAs steps (at_marker m) v (current_tree now)) u_is s)
+            let count : length (to_next_cut m (groups steps)) ≡ 0 = ap length none in
+            turned_none (x ∷ xs) le (subst (λ l. ComesBySome l (place m) u) none comes) (omega arith)
 
-        by_place : (m ≡ length steps) ⊎ (m < length steps) → Turned now m
-        by_place (inl is) = at_end is
-        by_place (inr lt) = turned_some u (inside_at steps old new nodes leads m lt) comes s
+        by_place : (x : Step) (xs : List Step) → (m ≡ length steps) ⊎ (m < length steps) → Turned now m u (x ∷ xs)
+        by_place x xs (inl is) = at_end x xs is
+        by_place x xs (inr lt) = turned_some x xs (inside_at steps old new nodes leads m lt) comes
 
-        by_taken : (taken : List Step) → taken_of (to_next_cut m (groups steps)) (place m) u comes ≡ taken → Turned now m
-        by_taken [] is =
-            let u_is : u ≡ place m = taken_is (to_next_cut m (groups steps)) (place m) u comes ∙ ap (λ l. after l (place m)) is in
-            turned_none le (subst (λ v. StandsAs steps (at_marker m) v (current_tree now)) u_is s)
-        by_taken (x ∷ xs) is = by_place (le_cases m (length steps) le)
+        by_taken : (taken : List Step) → taken_of (to_next_cut m (groups steps)) (place m) u comes ≡ taken → Turned now m u taken
+        by_taken [] is = turned_none [] le (taken_is (to_next_cut m (groups steps)) (place m) u comes ∙ ap (λ l. after l (place m)) is) refl
+        by_taken (x ∷ xs) is = by_place x xs (le_cases m (length steps) le)
           where
             le_cases : (a b : ℕ) → a ≤ b → (a ≡ b) ⊎ (a < b)
             le_cases a b le = ⊎_elim (λ same. inl (eqb-true a b same)) (λ other. inr (let no : a ≢ b = (λ e. let t : (a == b) ≡ true = eq-eqb a b e in cc) in omega arith)) (cases_Bool (a == b))
 
     -- The whole way back.
-    module _ (t : Turned now m) where
+    module _ (taken : List Step) (t : Turned now m u taken) where
       abbrev pub turned_history : History
       turned_history = then_all now (turn_calls m t.j)
 
       abbrev pub rest_calls : List Change
-      rest_calls = home_calls steps t.j (taken_of (from_last_cut t.j (groups steps)) (place t.k) t.u t.comes) ++ end_calls fs
+      rest_calls = home_calls steps t.j (taken_of (from_last_cut t.j (groups steps)) (place t.k) u t.comes) ++ end_calls fs
 
       sound_turned : IsSound turned_history
       sound_turned = sound_all now (turn_calls m t.j) sound (safe_can o P now (turn_calls m t.j) t.safe)
@@ -221,36 +216,38 @@ module _ (steps : List Step) (old new : FileTree) (nodes : List Node) (leads : L
 
       -- A crash at any moment of it leaves an interrupted tree.
       pub safe_return : IsSafe o P now (turn_calls m t.j ++ rest_calls)
-      safe_return = safe_append o P now (turn_calls m t.j) rest_calls t.safe (safe_way turned_history t.k t.j t.u t.le t.cut t.comes (safe_all o P now (turn_calls m t.j) t.safe) durable_turned sound_turned t.stands)
+      safe_return = safe_append o P now (turn_calls m t.j) rest_calls t.safe (safe_way turned_history t.k t.j u t.le t.cut t.comes (safe_all o P now (turn_calls m t.j) t.safe) durable_turned sound_turned t.stands)
 
       -- Behind it the old tree stands, and nothing is pending.
       pub done_return : (current_tree (then_all now (turn_calls m t.j ++ rest_calls)) ≡ old) × IsDurable (then_all now (turn_calls m t.j ++ rest_calls))
       done_return = subst (λ (h : History). (current_tree h ≡ old) × IsDurable h) (sym (then_all-append now (turn_calls m t.j) rest_calls))
-          (done_way turned_history t.k t.j t.u t.le t.cut t.comes (safe_all o P now (turn_calls m t.j) t.safe) durable_turned sound_turned t.stands)
+          (done_way turned_history t.k t.j u t.le t.cut t.comes (safe_all o P now (turn_calls m t.j) t.safe) durable_turned sound_turned t.stands)
 
-  -- The whole recovery back of a tree that reads so, where all that a crash may leave before it is interrupted.
-  module _ (sound : IsSound o) (each : (c : FileTree) → IsCrashState o c → P c) (m : ℕ) (u : FileTree) (le : m ≤ length steps) (comes : ComesBySome (to_next_cut m (groups steps)) (place m) u)
-      (s : StandsAs steps (at_marker m) u (current_tree o)) where
+  -- The whole of it, behind a sync.
+  module _ (now : History) (moments : LeavesOnly o now P) (sound : IsSound now) (m : ℕ) (u : FileTree) (le : m ≤ length steps) (comes : ComesBySome (to_next_cut m (groups steps)) (place m) u)
+      (s : StandsAs steps (at_marker m) u (current_tree now)) where
     abbrev at_synced : History
-    at_synced = Then o call.Sync
+    at_synced = Then now call.Sync
 
-    at_first : LeavesOnly o o P
-    at_first = started o P each
-
-    pub at_second : LeavesOnly o at_synced P
-    at_second = goes_on-sync o o P at_first (forward leads.leads m u le comes s)
+    pub at_moments : LeavesOnly o at_synced P
+    at_moments = goes_on-sync o now P moments (forward leads.leads m u le comes s)
 
     pub at_sound : IsSound at_synced
-    at_sound = record { allowed = (tt, sound.allowed); tree = sound.tree; texts = sound.texts; above = sound.above }
+    at_sound = sound_then call.Sync now sound tt
 
-    pub at_turn : Turned at_synced m
-    at_turn = turn at_synced m at_second (durable-sync o) at_sound u le comes s
+    abbrev pub taken_at : List Step
+    taken_at = taken_of (to_next_cut m (groups steps)) (place m) u comes
+
+    pub at_turn : Turned at_synced m u taken_at
+    at_turn = turn at_synced m u at_moments (durable-sync now) at_sound s le comes
 
     abbrev pub at_calls : List Change
-    at_calls = turn_calls m at_turn.j ++ rest_calls at_synced m at_second (durable-sync o) at_sound at_turn
+    at_calls = turn_calls m at_turn.j ++ rest_calls at_synced m u at_moments (durable-sync now) at_sound s taken_at at_turn
 
-    pub safe_back_at : IsSafe o P o (call.Sync ∷ at_calls)
-    safe_back_at = (at_first, tt, safe_return at_synced m at_second (durable-sync o) at_sound at_turn)
+    -- A crash at any moment of it leaves an interrupted tree.
+    pub safe_back_at : IsSafe o P now (call.Sync ∷ at_calls)
+    safe_back_at = (moments, tt, safe_return at_synced m u at_moments (durable-sync now) at_sound s taken_at at_turn)
 
+    -- Behind it the old tree stands, and nothing is pending.
     pub done_back_at : (current_tree (then_all at_synced at_calls) ≡ old) × IsDurable (then_all at_synced at_calls)
-    done_back_at = done_return at_synced m at_second (durable-sync o) at_sound at_turn
+    done_back_at = done_return at_synced m u at_moments (durable-sync now) at_sound s taken_at at_turn

@@ -1,5 +1,5 @@
 -- The changing calls of a commit, in order.
-use Rattle.std.specs.Prelude.{ℕ, ◌+◌, ◌-◌, List, [], ◌∷◌, ◌++◌, length, ◌==◌, if◌then◌else◌, Bool, true, false, Option, Some, None, IsTrue}
+use Rattle.std.specs.Prelude.{ℕ, ◌+◌, ◌-◌, List, [], ◌∷◌, ◌++◌, length, ◌==◌, if◌then◌else◌, nat_lt, Bool, true, false, Option, Some, None, IsTrue}
 use Rattle.std.specs.FinMap.{get, remove}
 use Rattle.std.specs.Str.{is_utf8}
 use Rattle.dired_text.specs.Paths.{Names}
@@ -14,7 +14,7 @@ use Rattle.commit_steps.specs.declared.step.Step.{Step}
 use Rattle.commit_steps.specs.Staging.{staging, staged, at_marker, back_marker, held, fresh_name, new_journal, plan, sealed, undone}
 use Rattle.step_trees.specs.Entries.{HoldsOnly}
 use Rattle.step_trees.specs.Steps.{call_of, undo_of}
-use Rattle.step_trees.specs.Groups.{groups, from_last_cut, whole_before}
+use Rattle.step_trees.specs.Groups.{groups, to_next_cut, whole_behind, from_last_cut, whole_before}
 use Rattle.commit_states.specs.declared.held.Held.{Held}
 
 -- the call that makes a fresh entry at a path
@@ -118,6 +118,13 @@ Cleans hs t = CleansItems (held_items hs) t
 abbrev pub removals : List Held → ℕ → List Change
 removals hs n = removals_of (held_items hs) (at_marker n)
 
+-- From `at-m` on to the end of the steps. `left` are those from m to the next cut that are still to be done.
+abbrev pub resume_calls : List Step → ℕ → List Step → List Change
+resume_calls steps m left =
+    if nat_lt m (length steps)
+    then marked_calls left (staged (at_marker m)) (staged (at_marker (m + length (to_next_cut m (groups steps))))) ++ calls_from (m + length (to_next_cut m (groups steps))) (whole_behind m (groups steps))
+    else []
+
 -- the journal of this name, and then the directory
 abbrev pub last_of : List ℕ → List Change
 last_of journal = call.Remove (staged journal) ∷ call.RemoveDir staging ∷ []
@@ -158,7 +165,12 @@ abbrev pub undo_from : ℕ → List (List Step) → List Change
 undo_from k [] = []
 undo_from k (group ∷ gs) = undo_from (k + length group) gs ++ back_calls k group group
 
--- the marker turns round where j steps are done
+-- where the marker turns round: at m, if none of the steps from m to the next cut was done, and else at that cut
+abbrev pub turn_place : List Step → ℕ → List Step → ℕ
+turn_place steps m [] = m
+turn_place steps m (x ∷ taken) = m + length (to_next_cut m (groups steps))
+
+-- from `at-k` it becomes `back-j`
 abbrev pub turn_calls : ℕ → ℕ → List Change
 turn_calls k j = call.Rename (staged (at_marker k)) (staged (back_marker j)) ∷ call.Sync ∷ []
 

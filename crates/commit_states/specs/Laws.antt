@@ -1,29 +1,121 @@
 -- Lists of calls that are safe and where they lead, as statements.
-use Rattle.std.specs.Prelude.{◌≡◌, ℕ, ◌+◌, List}
+use Rattle.std.specs.Prelude.{◌≡◌, ◌⊎◌, ℕ, ◌+◌, ◌≤◌, List, ◌∷◌, ◌++◌, length, take}
 use Rattle.tree_core.specs.declared.changes.Fresh.{Fresh}
+use Rattle.tree_core.specs.declared.node.Node.{Node}
 use Rattle.tree_core.specs.declared.node.Change.{Change}
+use Rattle.tree_core.specs.declared.node.Change.TheVariants as call
 use Rattle.tree_core.specs.declared.node.CallName.{CallName}
-use Rattle.tree_core.specs.FileTree.{FileTree}
-use Rattle.tree_core.specs.History.{History, IsSound, current_tree, next_number, IsDurable, LeavesOnly}
+use Rattle.tree_core.specs.FileTree.{FileTree, IsTree, IsAbsent}
+use Rattle.tree_core.specs.History.{History, Then, IsSound, current_tree, next_number, IsCrashState, IsDurable, LeavesOnly}
 use Rattle.tree_core.specs.Runs.{then_all, CanAll, FailedIn}
 use Rattle.commit_steps.specs.declared.step.Step.{Step}
+use Rattle.commit_steps.specs.Staging.{staging, at_marker, back_marker}
+use Rattle.step_trees.specs.Steps.{after}
+use Rattle.step_trees.specs.Groups.{groups, to_next_cut, from_last_cut, ComesBySome, left_of, taken_of}
+use Rattle.step_trees.specs.Leads.{start, Leads}
 use Rattle.commit_states.specs.declared.held.Held.{Held}
-use Rattle.commit_states.specs.Interrupted.{IsInterrupted}
-use Rattle.commit_states.specs.Calls.{fresh_nodes, commit_calls}
+use Rattle.commit_states.specs.Interrupted.{StandsAs, IsInterrupted, GoesForward}
+use Rattle.commit_states.specs.Calls.{fresh_nodes, commit_calls, staging_calls, calls_from, resume_calls, seal_calls, cleaning_calls, Cleans, turn_place, turn_calls, home_calls, end_calls, fresh_items, CleansItems}
 use Rattle.commit_states.specs.Fits.{Fits}
 
--- These calls, from o on, can be done one after another. A crash at any moment leaves a tree that has P, also where one of them
--- fails and is the last. Behind them all the target stands, and nothing is pending.
-pub record LeadsSafely (P : FileTree → Type 0) (target : FileTree) (o : History) (changes : List Change) : Type 0 where
-  pub can : CanAll changes o
-  pub moments : LeavesOnly o (then_all o changes) P
-  pub failed : (last : History) (before : FileTree) (first : CallName) → FailedIn changes o last before first → LeavesOnly o last P
-  pub target_stands : current_tree (then_all o changes) ≡ target
-  pub durable : IsDurable (then_all o changes)
+-- These calls, from now on, can be done one after another. A crash at any moment since a run began leaves a tree that has P, also
+-- where one of them fails and is the last. Behind them all the target stands, and nothing is pending.
+pub record LeadsSafely (P : FileTree → Type 0) (target : FileTree) (began now : History) (changes : List Change) : Type 0 where
+  pub can : CanAll changes now
+  pub moments : LeavesOnly began (then_all now changes) P
+  pub failed : (last : History) (before : FileTree) (first : CallName) → FailedIn changes now last before first → LeavesOnly began last P
+  pub target_stands : current_tree (then_all now changes) ≡ target
+  pub durable : IsDurable (then_all now changes)
+
+-- ---- a commit
 
 -- A commit of steps leads safely to the edited tree.
 abbrev pub CommitsAreSafe : Type 0
 CommitsAreSafe =
     (steps : List Step) (fs : List Fresh) (journal : List ℕ) (hs : List Held) (new : FileTree) (o : History) → IsDurable o → IsSound o
     → Fits steps fs journal hs new (current_tree o) (next_number o)
-    → LeadsSafely (IsInterrupted steps (current_tree o) new (fresh_nodes (current_tree o) (next_number o + 1) fs)) new o (commit_calls steps fs journal hs)
+    → LeadsSafely (IsInterrupted steps (current_tree o) new (fresh_nodes (current_tree o) (next_number o + 1) fs)) new o o (commit_calls steps fs journal hs)
+
+-- `plan` and `at-m` stand, and any of the steps from m to the next cut are done. Since a run began nothing was left but
+-- interrupted trees.
+pub record Halted (steps : List Step) (old new : FileTree) (fresh : List Node) (began now : History) : Type 0 where
+  pub m : ℕ
+  pub u : FileTree
+  pub le : m ≤ length steps
+  pub comes : ComesBySome (to_next_cut m (groups steps)) (after (take m steps) (start old fresh)) u
+  pub stands : StandsAs steps (at_marker m) u (current_tree now)
+  pub moments : LeavesOnly began now (IsInterrupted steps old new fresh)
+  pub sound : IsSound now
+
+-- the history of a commit up to its first step, and up to its seal
+abbrev pub staged_history : List Fresh → List ℕ → History → History
+staged_history fs journal o = then_all (Then o call.Sync) (staging_calls fs journal)
+
+abbrev pub stepped_history : List Step → List Fresh → List ℕ → History → History
+stepped_history steps fs journal o = then_all (staged_history fs journal o) (calls_from 0 (groups steps))
+
+-- Where a call among the steps or the markers failed, that stands.
+abbrev pub FailedStepsHalt : Type 0
+FailedStepsHalt =
+    (steps : List Step) (fs : List Fresh) (journal : List ℕ) (hs : List Held) (new : FileTree) (o : History) → IsDurable o → IsSound o
+    → Fits steps fs journal hs new (current_tree o) (next_number o)
+    → (last : History) (before : FileTree) (first : CallName) → FailedIn (calls_from 0 (groups steps)) (staged_history fs journal o) last before first
+    → Halted steps (current_tree o) new (fresh_nodes (current_tree o) (next_number o + 1) fs) o last
+
+-- Where the seal or a call behind it failed, recovery forward ends with the edited tree, whatever a crash leaves.
+abbrev pub FailedSealsGoForward : Type 0
+FailedSealsGoForward =
+    (steps : List Step) (fs : List Fresh) (journal : List ℕ) (hs : List Held) (new : FileTree) (o : History) → IsDurable o → IsSound o
+    → Fits steps fs journal hs new (current_tree o) (next_number o)
+    → (last : History) (before : FileTree) (first : CallName) → FailedIn (seal_calls ++ cleaning_calls hs (length steps)) (stepped_history steps fs journal o) last before first
+    → (c : FileTree) → IsCrashState last c → GoesForward steps (current_tree o) new (fresh_nodes (current_tree o) (next_number o + 1) fs) c
+
+-- ---- forward from `at-m`
+
+-- What is left of its group is done, then the groups behind it, the seal and the cleaning.
+abbrev pub HaltsGoForward : Type 0
+HaltsGoForward =
+    (steps : List Step) (old new : FileTree) (fresh : List Node) (hs : List Held) (began now : History) → Leads steps old new fresh
+    → Cleans hs (after (take (length steps) steps) (start old fresh)) → (h : Halted steps old new fresh began now)
+    → LeadsSafely (IsInterrupted steps old new fresh) new began now
+    (call.Sync ∷ (resume_calls steps h.m (left_of (to_next_cut h.m (groups steps)) (after (take h.m steps) (start old fresh)) h.u h.comes) ++ (seal_calls ++ cleaning_calls hs (length steps))))
+
+-- ---- back
+
+-- `plan` and `back-m` stand, and any of the steps from the last cut, k, to m are done.
+pub record Turned (steps : List Step) (old new : FileTree) (fresh : List Node) (began now : History) : Type 0 where
+  pub k : ℕ
+  pub m : ℕ
+  pub u : FileTree
+  pub le : m ≤ length steps
+  pub cut : m ≡ k + length (from_last_cut m (groups steps))
+  pub comes : ComesBySome (from_last_cut m (groups steps)) (after (take k steps) (start old fresh)) u
+  pub stands : StandsAs steps (back_marker m) u (current_tree now)
+  pub moments : LeavesOnly began now (IsInterrupted steps old new fresh)
+  pub sound : IsSound now
+
+-- Those of its group that were done are undone, then the groups before it, and the staging directory is cleared.
+abbrev pub TurnedGoBack : Type 0
+TurnedGoBack =
+    (steps : List Step) (old new : FileTree) (fresh : List Node) (fs : List Fresh) (began now : History) → Leads steps old new fresh
+    → IsTree old → IsAbsent old staging → CleansItems (fresh_items 0 fs) (start old fresh) → (b : Turned steps old new fresh began now)
+    → LeadsSafely (IsInterrupted steps old new fresh) old began now
+    (call.Sync ∷ (home_calls steps b.m (taken_of (from_last_cut b.m (groups steps)) (after (take b.k steps) (start old fresh)) b.u b.comes) ++ end_calls fs))
+
+-- From `at-m` the marker turns round, at m if none of the steps from m to the next cut was done, and else at that cut. From the last
+-- cut before that place, k, to it some steps were done.
+pub record TurnsRound (steps : List Step) (old : FileTree) (fresh : List Node) (m : ℕ) (u : FileTree) (taken : List Step) : Type 0 where
+  pub j : ℕ
+  pub j_is : j ≡ turn_place steps m taken
+  pub k : ℕ
+  pub cut : j ≡ k + length (from_last_cut j (groups steps))
+  pub comes : ComesBySome (from_last_cut j (groups steps)) (after (take k steps) (start old fresh)) u
+
+-- These are undone, and so on back.
+abbrev pub HaltsGoBack : Type 0
+HaltsGoBack =
+    (steps : List Step) (old new : FileTree) (fresh : List Node) (fs : List Fresh) (began now : History) → Leads steps old new fresh
+    → IsTree old → IsAbsent old staging → CleansItems (fresh_items 0 fs) (start old fresh) → (h : Halted steps old new fresh began now)
+    → (t : TurnsRound steps old fresh h.m h.u (taken_of (to_next_cut h.m (groups steps)) (after (take h.m steps) (start old fresh)) h.u h.comes))
+    × LeadsSafely (IsInterrupted steps old new fresh) old began now
+    (call.Sync ∷ (turn_calls h.m t.j ++ (home_calls steps t.j (taken_of (from_last_cut t.j (groups steps)) (after (take t.k steps) (start old fresh)) h.u t.comes) ++ end_calls fs)))

@@ -1,9 +1,41 @@
 // Laws over the definitions alone.
-ghost use Rattle.commit_states.specs.Laws.{CommitsAreSafe};
+ghost use Rattle.commit_states.specs.Laws.{
+  CommitsAreSafe,
+  FailedSealsGoForward,
+  FailedStepsHalt,
+  HaltsGoBack,
+  HaltsGoForward,
+  TurnedGoBack,
+};
 
 /// A commit whose steps, fresh entries, journal and held entries fit the tree, which is durable: its calls can be done one after
 /// another; a crash at any moment leaves an interrupted tree, also where a call fails and is the last; behind them the edited tree
 /// stands, and nothing is pending.
 pub fn commits_are_safe()
     ensures { CommitsAreSafe }
+{}
+
+/// Where a call of a commit failed. Among the steps and their markers: `plan` and a marker `at-m` stand, and any of the steps from
+/// m to the next cut are done. At the seal or behind it: whatever a crash leaves, recovery forward ends with the edited tree.
+pub fn failed_calls_leave_rows()
+    ensures steps { FailedStepsHalt }
+    ensures seal { FailedSealsGoForward }
+{}
+
+/// Recovery forward from `at-m`: the steps that are left up to the next cut, the groups behind it, the seal and the cleaning. A
+/// crash at any moment leaves an interrupted tree, and behind them the edited tree stands, with nothing pending.
+pub fn halts_go_forward()
+    ensures { HaltsGoForward }
+{}
+
+/// The way back from `at-m`, be it the commit's own or a recovery's: the marker turns round, the steps that were done are undone
+/// group by group, the last one first, and the staging directory is cleared. A crash at any moment leaves an interrupted tree, and
+/// behind them the old tree stands, with nothing pending.
+pub fn halts_go_back()
+    ensures { HaltsGoBack }
+{}
+
+/// The same from `back-m` on.
+pub fn turned_go_back()
+    ensures { TurnedGoBack }
 {}

@@ -6,4 +6,6 @@ mod held;
 mod laws;
 
 pub use held::Held;
-pub use laws::commits_are_safe;
+pub use laws::{
+    commits_are_safe, failed_calls_leave_rows, halts_go_back, halts_go_forward, turned_go_back,
+};

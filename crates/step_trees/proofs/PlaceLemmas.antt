@@ -10,7 +10,7 @@ use Rattle.step_trees.proofs.ChoiceLemmas.{free_rest, free_first, comes_behind, 
 use Rattle.step_trees.proofs.CutLemmas.{FreeGroups, free_groups, groups_groups, joined_groups}
 use Rattle.step_trees.proofs.GroupLemmas.{Free}
 use Rattle.step_trees.proofs.LeadLemmas.{LedFrom, Led, entries_at}
-use Rattle.step_trees.specs.Groups.{groups, joined, to_next_cut, from_last_cut, whole_before, ComesBySome, AreGroups}
+use Rattle.step_trees.specs.Groups.{groups, joined, to_next_cut, whole_behind, from_last_cut, whole_before, ComesBySome, AreGroups}
 use Rattle.step_trees.specs.Leads.{start}
 use Rattle.step_trees.specs.Steps.{step_done, after}
 
@@ -48,6 +48,14 @@ to_next_cut-out i g gs =
     let e : length g + i - length g ≡ i = omega arith in
     cond-false (nat_lt (length g + i) (length g)) (drop (length g + i) g) (to_next_cut (length g + i - length g) gs) (le-ltb (length g + i) (length g) (omega arith)) ∙ ap (λ n. to_next_cut n gs) e
 
+pub whole_behind-in : (m : ℕ) (g : List Step) (gs : List (List Step)) → m < length g → whole_behind m (g ∷ gs) ≡ gs
+whole_behind-in m g gs lt = cond-true (nat_lt m (length g)) gs (whole_behind (m - length g) gs) (lt-ltb m (length g) lt)
+
+pub whole_behind-out : (i : ℕ) (g : List Step) (gs : List (List Step)) → whole_behind (length g + i) (g ∷ gs) ≡ whole_behind i gs
+whole_behind-out i g gs =
+    let e : length g + i - length g ≡ i = omega arith in
+    cond-false (nat_lt (length g + i) (length g)) gs (whole_behind (length g + i - length g) gs) (le-ltb (length g + i) (length g) (omega arith)) ∙ ap (λ n. whole_behind n gs) e
+
 pub from_last_cut-in : (m : ℕ) (g : List Step) (gs : List (List Step)) → m ≤ length g → from_last_cut m (g ∷ gs) ≡ take m g
 from_last_cut-in m g gs le = cond-true (nat_le m (length g)) (take m g) (from_last_cut (m - length g) gs) (le-leb m (length g) le)
 
@@ -74,6 +82,7 @@ module _ (steps : List Step) (old new : FileTree) (fresh : List Node) (leads : L
   -- from place k on these groups come
   pub record Remains (k : ℕ) (gs : List (List Step)) : Type 0 where
     pub places : (i : ℕ) → to_next_cut (k + i) (groups steps) ≡ to_next_cut i gs
+    pub wholes : (i : ℕ) → whole_behind (k + i) (groups steps) ≡ whole_behind i gs
     pub places_back : (i : ℕ) → 0 < i → from_last_cut (k + i) (groups steps) ≡ from_last_cut i gs
     pub are : AreGroups gs
     pub free : FreeGroups gs (after (take k steps) (start old fresh))
@@ -83,6 +92,7 @@ module _ (steps : List Step) (old new : FileTree) (fresh : List Node) (leads : L
   pub all_remain : Remains 0 (groups steps)
   all_remain = record {
     places = λ i. ap (λ n. to_next_cut n (groups steps)) (omega arith);
+    wholes = λ i. ap (λ n. whole_behind n (groups steps)) (omega arith);
     places_back = λ i some. ap (λ n. from_last_cut n (groups steps)) (omega arith);
     are = groups_groups steps;
     free = free_groups (groups steps) (start old fresh) new (subst (λ l. LedFrom (start old fresh) l new) (sym (joined_groups steps)) leads.from) (groups_groups steps) leads.others;
@@ -105,6 +115,7 @@ module _ (steps : List Step) (old new : FileTree) (fresh : List Node) (leads : L
   pub remains_next : (k : ℕ) (g : List Step) (gs : List (List Step)) → Remains k (g ∷ gs) → Remains (k + length g) gs
   remains_next k g gs r = record {
     places = λ i. ap (λ n. to_next_cut n (groups steps)) (omega arith) ∙ r.places (length g + i) ∙ to_next_cut-out i g gs;
+    wholes = λ i. ap (λ n. whole_behind n (groups steps)) (omega arith) ∙ r.wholes (length g + i) ∙ whole_behind-out i g gs;
     places_back = λ i some. ap (λ n. from_last_cut n (groups steps)) (omega arith) ∙ r.places_back (length g + i) (omega arith) ∙ from_last_cut-out i g gs some;
     are = (r.are).1;
     free = subst (FreeGroups gs) (sym (at_more k g (joined gs) r.rest)) (r.free).1;
@@ -206,6 +217,7 @@ module _ (steps : List Step) (old new : FileTree) (fresh : List Node) (leads : L
     pub gs : List (List Step)
     pub stretch : Stretch m g
     pub rest : Remains (m + length g) gs
+    pub behind_is : whole_behind m (groups steps) ≡ gs
     -- the whole group, from the last cut at or before m
     pub from : ℕ
     pub whole : List Step
@@ -220,7 +232,7 @@ module _ (steps : List Step) (old new : FileTree) (fresh : List Node) (leads : L
       let split : g ≡ take i g ++ drop i g = sym (take-append-drop i g) in
       let base : at (k + i) ≡ after (take i g) (at k) =
       ap (λ l. after l (start old fresh)) (take-add k i steps ∙ ap (λ l. take k steps ++ l) (ap (take i) r.rest ∙ take-first i g (joined gs) lt)) ∙ after-append (take k steps) (take i g) (start old fresh) in
-      let behind_is : drop (k + i) steps ≡ drop i g ++ joined gs = drop-add k i steps ∙ ap (drop i) r.rest ∙ drop-first i g (joined gs) lt in
+      let dropped : drop (k + i) steps ≡ drop i g ++ joined gs = drop-add k i steps ∙ ap (drop i) r.rest ∙ drop-first i g (joined gs) lt in
       let next : k + i + length (drop i g) ≡ k + length g = omega arith in
       record {
         g = drop i g;
@@ -228,11 +240,12 @@ module _ (steps : List Step) (old new : FileTree) (fresh : List Node) (leads : L
         stretch = record {
           some = omega arith;
           is = r.places i ∙ to_next_cut-in i g gs lt;
-          more = at_more (k + i) (drop i g) (joined gs) behind_is;
+          more = at_more (k + i) (drop i g) (joined gs) dropped;
           within = let e = length-append g (joined gs) in let c = r.count in omega arith;
           free = subst (Free (drop i g)) (sym base) (free_rest (take i g) (drop i g) (at k) (entries_at steps old new fresh leads k).tree (subst (λ l. Free l (at k)) split (r.free).0));
         };
         rest = subst (λ n. Remains n gs) (sym next) (remains_next k g gs r);
+        behind_is = r.wholes i ∙ whole_behind-in i g gs lt;
         from = k;
         whole = g;
         back = first_back k g gs r;

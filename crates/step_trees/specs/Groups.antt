@@ -68,6 +68,11 @@ abbrev pub to_next_cut : ℕ → List (List Step) → List Step
 to_next_cut m [] = []
 to_next_cut m (g ∷ gs) = if nat_lt m (length g) then drop m g else to_next_cut (m - length g) gs
 
+-- the groups behind that cut
+abbrev pub whole_behind : ℕ → List (List Step) → List (List Step)
+whole_behind m [] = []
+whole_behind m (g ∷ gs) = if nat_lt m (length g) then gs else whole_behind (m - length g) gs
+
 -- the steps from the last cut before place m to it
 abbrev pub from_last_cut : ℕ → List (List Step) → List Step
 from_last_cut m [] = []
