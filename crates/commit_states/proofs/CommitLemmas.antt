@@ -60,7 +60,7 @@ module _ (steps : List Step) (fs : List Fresh) (journal : List ℕ) (hs : List H
   pub leads : Led steps old new nodes
   leads = led steps old new nodes fits.leads fits.journal_is.journal.spelled.paths
 
-  journal_is : IsJournalText steps journal
+  pub journal_is : IsJournalText steps journal
   journal_is = record { journal = record { version = Two; journal = fits.journal_is.journal }; short = fits.journal_is.short }
 
   safe1 : IsSafe o P h0 (staging_calls fs journal)

@@ -12,7 +12,7 @@ use Rattle.tree_core.proofs.Runs.{safe_failed, closed_failed, closed_can, sound_
 use Rattle.tree_core.proofs.Sound.{sound_then}
 use Rattle.commit_states.proofs.LoopLemmas.{Ready, one_group, left, Q, did, pending, is_mid, sound_mid, stands_mid, can_next, marked, safe_both}
 use Rattle.commit_states.specs.Calls.{do_calls, marked_calls, group_calls, calls_from}
-use Rattle.commit_states.specs.Laws.{Halted}
+use Rattle.commit_states.specs.Stops.{Halted}
 use Rattle.commit_states.specs.Interrupted.{StandsAs, IsInterrupted, forward}
 use Rattle.commit_steps.specs.Staging.{staged, at_marker}
 use Rattle.commit_steps.specs.declared.step.Step.{Step}
@@ -23,7 +23,7 @@ use Rattle.step_trees.specs.Leads.{start}
 use Rattle.step_trees.specs.Steps.{after}
 use Rattle.step_trees.proofs.LeadLemmas.{Led}
 
-split_failed : (cs ds : List Change) (h last : History) (before : FileTree) (first : CallName) → FailedIn (cs ++ ds) h last before first → FailedIn cs h last before first ⊎ FailedIn ds (then_all h cs) last before first
+pub split_failed : (cs ds : List Change) (h last : History) (before : FileTree) (first : CallName) → FailedIn (cs ++ ds) h last before first → FailedIn cs h last before first ⊎ FailedIn ds (then_all h cs) last before first
 split_failed [] ds h last before first failed = inr failed
 split_failed (c ∷ cs) ds h last before first (inl here) = inl (inl here)
 split_failed (c ∷ cs) ds h last before first (inr more) = ⊎_elim (λ k. inl (inr k)) (λ k. inr k) (split_failed cs ds (Then h c) last before first more)

@@ -1,5 +1,5 @@
 -- The laws of safe lists of calls, put together.
-use Rattle.std.proofs.Common.{◌≡◌, ℕ, ◌+◌, ◌<◌, ◌^◌, List, ◌∷◌, ◌++◌, length, take}
+use Rattle.std.proofs.Common.{◌≡◌, ◌⊎◌, inl, inr, ⊎_elim, ℕ, ◌+◌, ◌<◌, ◌^◌, List, [], ◌∷◌, ◌++◌, length, take, ◌∙◌}
 use Rattle.std.specs.List.{AllByRecursion}
 use Rattle.tree_core.specs.declared.changes.Fresh.{Fresh}
 use Rattle.tree_core.specs.declared.node.Node.{Node}
@@ -9,7 +9,9 @@ use Rattle.tree_core.specs.declared.node.CallName.{CallName}
 use Rattle.tree_core.specs.FileTree.{FileTree, IsTree, IsAbsent}
 use Rattle.tree_core.specs.History.{History, Then, IsSound, current_tree, next_number, IsCrashState, IsDurable}
 use Rattle.tree_core.specs.Runs.{then_all, FailedIn}
-use Rattle.tree_core.proofs.Runs.{IsSafe, safe_all, safe_can, safe_failed}
+use Rattle.tree_core.proofs.Runs.{IsSafe, closed_synced, safe_all, safe_can, safe_failed}
+use Rattle.tree_core.proofs.Moments.{Pending, durable-sync}
+use Rattle.step_trees.proofs.RemovalLemmas.{no_dir}
 use Rattle.commit_steps.specs.declared.step.Step.{Step}
 use Rattle.commit_steps.specs.Staging.{staging}
 use Rattle.commit_steps.specs.Steps.{HasPaths}
@@ -19,15 +21,18 @@ use Rattle.step_trees.specs.Leads.{start, Leads}
 use Rattle.step_trees.proofs.LeadLemmas.{Led, led}
 use Rattle.step_trees.proofs.PlaceLemmas.{all_remain}
 use Rattle.commit_states.specs.declared.held.Held.{Held}
-use Rattle.commit_states.specs.Interrupted.{StandsAs, IsInterrupted, GoesForward}
-use Rattle.commit_states.specs.Calls.{fresh_nodes, commit_calls, calls_from, resume_calls, seal_calls, cleaning_calls, Cleans, turn_calls, home_calls, end_calls, fresh_items, CleansItems}
+use Rattle.commit_states.specs.Interrupted.{StandsAs, IsInterrupted, nothing_staged, no_journal, GoesForward}
+use Rattle.commit_states.specs.Calls.{fresh_nodes, commit_calls, staging_calls, unstage_calls, Unstages, calls_from, resume_calls, seal_calls, cleaning_calls, Cleans, turn_calls, home_calls, end_calls, fresh_items, CleansItems}
 use Rattle.commit_states.specs.Fits.{Fits}
-use Rattle.commit_states.specs.Laws.{LeadsSafely, Halted, Turned, TurnsRound, staged_history, stepped_history}
-use Rattle.commit_states.proofs.CommitLemmas.{safe_commit, done_commit, leads, ready1, gone}
+use Rattle.commit_states.specs.Stops.{IsStaging, Unplanned, Halted, Turned, TurnsRound}
+use Rattle.commit_states.specs.Laws.{LeadsSafely, staged_history, stepped_history}
+use Rattle.commit_states.proofs.CommitLemmas.{safe_commit, done_commit, leads, journal_is, ready1, gone}
 use Rattle.commit_states.proofs.HaltLemmas.{halted}
 use Rattle.commit_states.proofs.ResumeLemmas.{safe_forward, done_forward}
 use Rattle.commit_states.proofs.ReturnLemmas.{safe_back, done_back, at_turn, safe_back_at, done_back_at}
 use Rattle.commit_states.proofs.UncleanLemmas.{unclean}
+use Rattle.commit_states.proofs.StageLemmas.{failed_staging}
+use Rattle.commit_states.proofs.UnstageLemmas.{safe_unstage, done_unstage}
 
 pub leads_safely : (P : FileTree → Type 0) (target : FileTree) (began now : History) (changes : List Change) → IsSafe began P now changes
     → (current_tree (then_all now changes) ≡ target) × IsDurable (then_all now changes) → LeadsSafely P target began now changes
@@ -53,6 +58,10 @@ module _ (steps : List Step) (fs : List Fresh) (journal : List ℕ) (hs : List H
   lead : Led steps (current_tree o) new nodes
   lead = leads steps fs journal hs new o durable sound fits
 
+  pub stagings_stop : (last : History) (before : FileTree) (first : CallName) → FailedIn (staging_calls fs journal) (Then o call.Sync) last before first
+      → Unplanned steps (current_tree o) new nodes (current_tree o) o last ⊎ ((h : Halted steps (current_tree o) new nodes o last) × (h.m ≡ 0))
+  stagings_stop last before first failed = failed_staging steps new fs journal o durable sound fits.absent fits.lawful fits.few_fresh (journal_is steps fs journal hs new o durable sound fits) lead last before first failed
+
   pub steps_halt : (last : History) (before : FileTree) (first : CallName) → FailedIn (calls_from 0 (groups steps)) (staged_history fs journal o) last before first
       → Halted steps (current_tree o) new nodes o last
   steps_halt last before first failed = halted steps (current_tree o) new nodes lead fits.few_steps o (groups steps) (staged_history fs journal o) 0 last before first
@@ -62,6 +71,29 @@ module _ (steps : List Step) (fs : List Fresh) (journal : List ℕ) (hs : List H
       → (c : FileTree) → IsCrashState last c → GoesForward steps (current_tree o) new nodes c
   seals_go_forward last before first failed c left = unclean steps (current_tree o) new nodes lead hs fits.cleans o (stepped_history steps fs journal o)
       (gone steps fs journal hs new o durable sound fits).ready last before first failed c left
+
+-- ---- without a journal
+
+module _ (steps : List Step) (old new : FileTree) (fresh : List Node) (target : FileTree) (began now : History) (which : (target ≡ old) ⊎ (target ≡ new)) (stop : Unplanned steps old new fresh target began now) where
+  abbrev R : FileTree → Type 0
+  R = IsInterrupted steps old new fresh
+
+  is_row : (t : FileTree) → IsStaging target t → R t
+  is_row t (inl none) = nothing_staged none.0 (⊎_elim (λ e. inl (none.1 ∙ e)) (λ e. inr (none.1 ∙ e)) which)
+  is_row t (inr f) = no_journal f.dir f.only (⊎_elim (λ e. inl (f.is ∙ e)) (λ e. inr (f.is ∙ e)) which)
+
+  pending : Pending now (IsStaging target)
+  pending = record { each = stop.each; sound = stop.sound; now = stop.reads }
+
+  pub unplanned_back : (xs : List (List ℕ)) → Unstages xs (current_tree now) → LeadsSafely R target began now (unstage_calls xs ++ call.Sync ∷ [])
+  unplanned_back xs can = leads_safely R target began now (unstage_calls xs ++ call.Sync ∷ []) (safe_unstage target xs began now R is_row stop.moments pending can) (done_unstage target xs began now R is_row stop.moments pending can)
+
+  pub unstaged_back : IsAbsent (current_tree now) staging → LeadsSafely R target began now (call.Sync ∷ [])
+  unstaged_back absent = leads_safely R target began now (call.Sync ∷ []) (closed_synced began R (IsStaging target) now [] is_row stop.moments pending tt) (by_reads stop.reads, durable-sync now)
+    where
+      by_reads : IsStaging target (current_tree now) → current_tree now ≡ target
+      by_reads (inl none) = none.1
+      by_reads (inr f) = absurd (no_dir (current_tree now) staging absent f.dir)
 
 -- ---- from a marker on
 

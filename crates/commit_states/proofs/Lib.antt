@@ -4,6 +4,7 @@ pub mod WayBackLemmas
 pub mod WithinLemmas
 pub mod LoopLemmas
 pub mod BackLemmas
+pub mod HaltLemmas
 pub mod CloseLemmas
 pub mod SealLemmas
 pub mod StageLemmas
@@ -11,7 +12,6 @@ pub mod FinishLemmas
 pub mod CommitLemmas
 pub mod ReturnLemmas
 pub mod ResumeLemmas
-pub mod HaltLemmas
 pub mod UnstageLemmas
 pub mod UncleanLemmas
 pub mod LawLemmas

@@ -1,5 +1,5 @@
 -- The staging of a commit.
-use Rattle.std.proofs.Common.{◌≡◌, ◌≢◌, ◌⊎◌, inl, inr, ℕ, ◌+◌, ◌≤◌, ◌<◌, ◌^◌, true, false, List, [], ◌∷◌, ◌++◌, length, refl, sym, ◌∙◌, ap, subst, arith, Option, Some, None, is_some}
+use Rattle.std.proofs.Common.{⊎_elim, ◌≡◌, ◌≢◌, ◌⊎◌, inl, inr, ℕ, ◌+◌, ◌≤◌, ◌<◌, ◌^◌, true, false, List, [], ◌∷◌, ◌++◌, length, refl, sym, ◌∙◌, ap, subst, arith, Option, Some, None, is_some}
 use Rattle.std.proofs.lemmas.Option.{none-some, same_Some}
 use Rattle.std.specs.FinMap.{get, insert}
 use Rattle.dired_text.specs.Paths.{Names, rest_below}
@@ -12,14 +12,14 @@ use Rattle.tree_core.specs.declared.node.Change.{Change}
 use Rattle.tree_core.specs.declared.node.Change.TheVariants as call
 use Rattle.tree_core.specs.FileTree.{FileTree, IsAbsent, IsDir, IsFile, CanDo, CanMake, CanRename, done, insert_same, renamed, is_dir_node, is_file_node}
 use Rattle.tree_core.specs.History.{History, Then, IsSound, current_tree, next_number, is_sync, IsDurable, LeavesOnly}
-use Rattle.tree_core.specs.Runs.{then_all}
+use Rattle.tree_core.specs.Runs.{then_all, FailedIn}
 use Rattle.tree_core.proofs.TreeLemmas.{absent_below}
 use Rattle.tree_core.proofs.Sound.{get-inserted, get-inserted_other, by_place}
-use Rattle.tree_core.proofs.Moments.{durable-sync, Keeps, Pending, pending-durable, started-durable, goes_on-sync}
-use Rattle.tree_core.proofs.Runs.{IsSafe, IsClosed, closed_append, closed_synced, closed_pending, closed_can, safe_append, safe_all, sound_all, single_synced, then_all-append}
+use Rattle.tree_core.proofs.Moments.{durable-sync, pending-sync, Keeps, Pending, pending-durable, started-durable, goes_on-sync}
+use Rattle.tree_core.proofs.Runs.{IsSafe, IsClosed, closed_failed, safe_failed, closed_append, closed_synced, closed_pending, closed_can, safe_append, safe_all, sound_all, single_synced, then_all-append}
 use Rattle.commit_states.proofs.LoopLemmas.{Ready, forward_at}
 use Rattle.commit_states.specs.Calls.{fresh_call, fresh_calls, node_or, fresh_node, fresh_nodes, number_behind, IsLawfulFresh, AreLawfulFresh, stage_calls, plan_calls}
-use Rattle.commit_states.specs.Interrupted.{bare, IsOne, IsJournalText, StandsAfter, IsInterrupted, nothing_staged, no_journal}
+use Rattle.commit_states.specs.Interrupted.{bare, StandsAs, IsOne, IsJournalText, StandsAfter, IsInterrupted, nothing_staged, no_journal}
 use Rattle.commit_steps.specs.Staging.{staging, staged, plan, new_journal, at_marker, fresh_name}
 use Rattle.commit_steps.specs.declared.step.Step.{Step}
 use Rattle.step_trees.proofs.NameLemmas.{apart_staged, differ, i-plan, i-at, i-new, i-fresh, fresh_injects}
@@ -28,18 +28,11 @@ use Rattle.step_trees.specs.Entries.{without, rest, IsFileOrLink, IsFresh, Holds
 use Rattle.step_trees.specs.Leads.{start, with_fresh}
 use Rattle.step_trees.proofs.LeadLemmas.{Led}
 use Rattle.commit_states.proofs.OwnNames.{staging_names, at_names, fresh_names, new_names, plan_names}
-
-abbrev Allowed : List ℕ → Node → Type 0
-Allowed name node = IsOne new_journal name node ⊎ (IsOne (at_marker 0) name node ⊎ IsFresh name node)
-
--- while the staging directory is made and filled: it doesn't stand yet, or it has no journal and only names of the first row
-pub record Filling (old t : FileTree) : Type 0 where
-  pub dir : IsDir t staging
-  pub only : HoldsOnly t Allowed
-  pub is : rest t ≡ old
-
-abbrev pub IsStaging : FileTree → FileTree → Type 0
-IsStaging old t = (IsAbsent t staging × (t ≡ old)) ⊎ Filling old t
+use Rattle.tree_core.specs.declared.node.CallName.{CallName}
+use Rattle.step_trees.specs.Groups.{groups, to_next_cut}
+use Rattle.step_trees.proofs.ChoiceLemmas.{none_done}
+use Rattle.commit_states.specs.Stops.{IsEarly, Filling, IsStaging, Unplanned, Halted}
+use Rattle.commit_states.proofs.HaltLemmas.{split_failed}
 
 pub staging_row : (steps : List Step) (old new : FileTree) (nodes : List Node) (t : FileTree) → IsStaging old t → IsInterrupted steps old new nodes t
 staging_row steps old new nodes t (inl none) = nothing_staged none.0 (inl none.1)
@@ -63,22 +56,22 @@ module _ (old : FileTree) where
   keeps_dir n u c sound (inr f) applied = absurd (absent_dir u staging applied.can.0.absent f.dir)
 
   -- a new name in it
-  added : (u : FileTree) (name : List ℕ) (node : Node) → Allowed name node → Filling old u → Filling old (insert u (staged name) node)
+  added : (u : FileTree) (name : List ℕ) (node : Node) → IsEarly name node → Filling old u → Filling old (insert u (staged name) node)
   added u name node allowed f = record {
     dir = ap is_dir_node (get-inserted_other u (staged name) node staging (λ same. let k : staging ≡ staged name = same in cc)) ∙ f.dir;
-    only = λ x n. by_place u (staged name) node (staged x) (λ o. o ≡ Some n → Allowed x n)
-        (λ same e. let named : name ≡ x = cc in subst (λ y. Allowed y n) named (subst (Allowed name) (same_Some node n e) allowed)) (λ other e. f.only x n e);
+    only = λ x n. by_place u (staged name) node (staged x) (λ o. o ≡ Some n → IsEarly x n)
+        (λ same e. let named : name ≡ x = cc in subst (λ y. IsEarly y n) named (subst (IsEarly name) (same_Some node n e) allowed)) (λ other e. f.only x n e);
     is = without-insert_in staging u (staged name) (name ∷ []) node (staged_in name) ∙ f.is;
   }
 
-  keeps_added : (u c : FileTree) (name : List ℕ) (node : Node) → CanMake u (staged name) → Allowed name node → IsStaging old u → c ≡ insert u (staged name) node → IsStaging old c
+  keeps_added : (u c : FileTree) (name : List ℕ) (node : Node) → CanMake u (staged name) → IsEarly name node → IsStaging old u → c ≡ insert u (staged name) node → IsStaging old c
   keeps_added u c name node can allowed (inl none) is = absurd (absent_dir u staging none.0 can.parent_is_dir)
   keeps_added u c name node can allowed (inr f) is = inr (subst (Filling old) (sym is) (added u name node allowed f))
 
-  keeps_write : (name : List ℕ) (bytes : List ℕ) (mode n : ℕ) → ((b : List ℕ) → Allowed name (File n b mode)) → Keeps (IsStaging old) (call.WriteFile (staged name) bytes mode) n
+  keeps_write : (name : List ℕ) (bytes : List ℕ) (mode n : ℕ) → ((b : List ℕ) → IsEarly name (File n b mode)) → Keeps (IsStaging old) (call.WriteFile (staged name) bytes mode) n
   keeps_write name bytes mode n allowed u c sound was applied = keeps_added u c name (File n applied.bytes mode) applied.can.0 (allowed applied.bytes) was applied.is
 
-  fresh_allowed : (k : ℕ) (node : Node) → k < 2 ^ 32 → IsFileOrLink node → Allowed (fresh_name k) node
+  fresh_allowed : (k : ℕ) (node : Node) → k < 2 ^ 32 → IsFileOrLink node → IsEarly (fresh_name k) node
   fresh_allowed k node small kind = inr (inr record { number = k; small = small; named = refl; kind = kind })
 
   keeps_fresh : (k n : ℕ) (f : Fresh) → k < 2 ^ 32 → Keeps (IsStaging old) (fresh_call (staged (fresh_name k)) f) n
@@ -259,7 +252,7 @@ module _ (steps : List Step) (new : FileTree) (fs : List Fresh) (journal : List 
   entered : Entered old begun 0 fs
   entered = enter old fs begun 0 (omega arith) lawful e_filled
 
-  allowed_at0 : (b : List ℕ) → Allowed at0 (File (next_number o) b 0o600)
+  allowed_at0 : (b : List ℕ) → IsEarly at0 (File (next_number o) b 0o600)
   allowed_at0 b = inr (inl record { named = refl; kind = tt })
 
   closed_front : IsClosed Q now front
@@ -371,3 +364,63 @@ module _ (steps : List Step) (new : FileTree) (fs : List Fresh) (journal : List 
     sound = sound_all written plan_calls sound_written (can_plan, (tt, tt));
     stands = planned;
   }
+
+  -- ---- where a call of the staging failed
+
+  unplanned : (x : History) → LeavesOnly o x P → Pending x Q → Unplanned steps old new nodes old o x
+  unplanned x left p = record { moments = left; sound = p.sound; reads = p.now; each = p.each }
+
+  no_step : (x y : History) → x ≡ y → current_tree y ≡ z0 → IsSound y → LeavesOnly o x P → (h : Halted steps old new nodes o x) × (h.m ≡ 0)
+  no_step x y is same sound_y left = (
+    record {
+      m = 0;
+      u = start old nodes;
+      le = omega arith;
+      comes = none_done (to_next_cut 0 (groups steps)) (start old nodes);
+      stands = subst (StandsAs steps at0 (start old nodes)) (sym (ap current_tree is ∙ same)) planned;
+      moments = left;
+      sound = subst IsSound (sym is) sound_y;
+    },
+    refl,
+  )
+
+  abbrev named : History
+  named = Then written (call.Rename (staged new_journal) (staged plan))
+
+  sound_named : IsSound named
+  sound_named = sound_all written (call.Rename (staged new_journal) (staged plan) ∷ []) sound_written (can_plan, tt)
+
+  pending_staged : Pending (then_all now (stage_calls fs journal)) Q
+  pending_staged = closed_pending Q now (stage_calls fs journal) pending closed
+
+  pending_synced : Pending (Then (then_all now (stage_calls fs journal)) call.Sync) Q
+  pending_synced = pending-sync (then_all now (stage_calls fs journal)) Q pending_staged.sound pending_staged.now
+
+  pending_written : Pending written Q
+  pending_written = subst (λ (x : History). Pending x Q) (sym (then_all-append now (stage_calls fs journal) (call.Sync ∷ [])) ∙ is_written) pending_synced
+
+  module _ (last : History) (before : FileTree) (first : CallName) (left : LeavesOnly o last P) where
+    abbrev Stops : Type 0
+    Stops = Unplanned steps old new nodes old o last ⊎ ((h : Halted steps old new nodes o last) × (h.m ≡ 0))
+
+    at : (x : History) → last ≡ x → Pending x Q → Stops
+    at x is p = inl (unplanned last left (subst (λ (y : History). Pending y Q) (sym is) p))
+
+    by_sync : FailedIn (call.Sync ∷ []) (then_all now (stage_calls fs journal)) last before first → Stops
+    by_sync (inl f) = ⊎_elim (λ e. at _ e pending_staged) (λ e. at _ e pending_synced) f.fate
+    by_sync (inr nothing) = absurd nothing
+
+    by_plan : FailedIn plan_calls written last before first → Stops
+    by_plan (inl f) = ⊎_elim (λ e. at _ e pending_written) (λ e. inr (no_step last named e refl sound_named left)) f.fate
+    by_plan (inr (inl f)) = ⊎_elim (λ e. inr (no_step last named e refl sound_named left)) (λ e. inr (no_step last ready e refl (sound_all named (call.Sync ∷ []) sound_named (tt, tt)) left)) f.fate
+    by_plan (inr (inr nothing)) = absurd nothing
+
+    by_parts : FailedIn ((stage_calls fs journal ++ call.Sync ∷ []) ++ plan_calls) now last before first → Stops
+    by_parts failed = ⊎_elim
+        (λ one. ⊎_elim (λ filling. at last refl (closed_failed Q now last before first (stage_calls fs journal) pending closed filling)) by_sync (split_failed (stage_calls fs journal) (call.Sync ∷ []) now last before first one))
+        (λ two. by_plan (subst (λ (h : History). FailedIn plan_calls h last before first) is_written two))
+        (split_failed (stage_calls fs journal ++ call.Sync ∷ []) plan_calls now last before first failed)
+
+  pub failed_staging : (last : History) (before : FileTree) (first : CallName) → FailedIn ((stage_calls fs journal ++ call.Sync ∷ []) ++ plan_calls) now last before first
+      → Unplanned steps old new nodes old o last ⊎ ((h : Halted steps old new nodes o last) × (h.m ≡ 0))
+  failed_staging last before first failed = by_parts last before first (safe_failed o P now last before first ((stage_calls fs journal ++ call.Sync ∷ []) ++ plan_calls) safe_planned failed) failed

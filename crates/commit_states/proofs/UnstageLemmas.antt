@@ -10,7 +10,7 @@ use Rattle.tree_core.proofs.TreeLemmas.{absent_below, absent_not}
 use Rattle.tree_core.proofs.Sound.{was_there}
 use Rattle.tree_core.proofs.Moments.{Keeps, Pending, durable-sync}
 use Rattle.tree_core.proofs.Runs.{IsSafe, IsClosed, closed_synced, closed_pending, then_all-append}
-use Rattle.commit_states.proofs.StageLemmas.{Filling, IsStaging}
+use Rattle.commit_states.specs.Stops.{Filling, IsStaging}
 use Rattle.commit_states.specs.Calls.{unstage_calls, Unstages}
 use Rattle.commit_steps.specs.Staging.{staging, staged}
 use Rattle.step_trees.proofs.RemovalLemmas.{removed-other, removed-itself, removed_dir, no_dir}

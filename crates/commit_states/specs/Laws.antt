@@ -1,5 +1,5 @@
 -- Lists of calls that are safe and where they lead, as statements.
-use Rattle.std.specs.Prelude.{◌≡◌, ◌⊎◌, ℕ, ◌+◌, ◌≤◌, List, ◌∷◌, ◌++◌, length, take}
+use Rattle.std.specs.Prelude.{◌≡◌, ◌⊎◌, ℕ, ◌+◌, ◌≤◌, List, [], ◌∷◌, ◌++◌, length, take}
 use Rattle.tree_core.specs.declared.changes.Fresh.{Fresh}
 use Rattle.tree_core.specs.declared.node.Node.{Node}
 use Rattle.tree_core.specs.declared.node.Change.{Change}
@@ -15,8 +15,9 @@ use Rattle.step_trees.specs.Groups.{groups, to_next_cut, from_last_cut, ComesByS
 use Rattle.step_trees.specs.Leads.{start, Leads}
 use Rattle.commit_states.specs.declared.held.Held.{Held}
 use Rattle.commit_states.specs.Interrupted.{StandsAs, IsInterrupted, GoesForward}
-use Rattle.commit_states.specs.Calls.{fresh_nodes, commit_calls, staging_calls, calls_from, resume_calls, seal_calls, cleaning_calls, Cleans, turn_place, turn_calls, home_calls, end_calls, fresh_items, CleansItems}
+use Rattle.commit_states.specs.Calls.{fresh_nodes, commit_calls, staging_calls, calls_from, resume_calls, seal_calls, cleaning_calls, Cleans, turn_place, turn_calls, home_calls, end_calls, fresh_items, CleansItems, unstage_calls, Unstages}
 use Rattle.commit_states.specs.Fits.{Fits}
+use Rattle.commit_states.specs.Stops.{Unplanned, Halted, Turned, TurnsRound}
 
 -- These calls, from now on, can be done one after another. A crash at any moment since a run began leaves a tree that has P, also
 -- where one of them fails and is the last. Behind them all the target stands, and nothing is pending.
@@ -36,17 +37,6 @@ CommitsAreSafe =
     → Fits steps fs journal hs new (current_tree o) (next_number o)
     → LeadsSafely (IsInterrupted steps (current_tree o) new (fresh_nodes (current_tree o) (next_number o + 1) fs)) new o o (commit_calls steps fs journal hs)
 
--- `plan` and `at-m` stand, and any of the steps from m to the next cut are done. Since a run began nothing was left but
--- interrupted trees.
-pub record Halted (steps : List Step) (old new : FileTree) (fresh : List Node) (began now : History) : Type 0 where
-  pub m : ℕ
-  pub u : FileTree
-  pub le : m ≤ length steps
-  pub comes : ComesBySome (to_next_cut m (groups steps)) (after (take m steps) (start old fresh)) u
-  pub stands : StandsAs steps (at_marker m) u (current_tree now)
-  pub moments : LeavesOnly began now (IsInterrupted steps old new fresh)
-  pub sound : IsSound now
-
 -- the history of a commit up to its first step, and up to its seal
 abbrev pub staged_history : List Fresh → List ℕ → History → History
 staged_history fs journal o = then_all (Then o call.Sync) (staging_calls fs journal)
@@ -54,7 +44,16 @@ staged_history fs journal o = then_all (Then o call.Sync) (staging_calls fs jour
 abbrev pub stepped_history : List Step → List Fresh → List ℕ → History → History
 stepped_history steps fs journal o = then_all (staged_history fs journal o) (calls_from 0 (groups steps))
 
--- Where a call among the steps or the markers failed, that stands.
+-- Where a call of the staging failed, the journal doesn't have its name yet, or `at-0` stands and no step is done.
+abbrev pub FailedStagingsStop : Type 0
+FailedStagingsStop =
+    (steps : List Step) (fs : List Fresh) (journal : List ℕ) (hs : List Held) (new : FileTree) (o : History) → IsDurable o → IsSound o
+    → Fits steps fs journal hs new (current_tree o) (next_number o)
+    → (last : History) (before : FileTree) (first : CallName) → FailedIn (staging_calls fs journal) (Then o call.Sync) last before first
+    → Unplanned steps (current_tree o) new (fresh_nodes (current_tree o) (next_number o + 1) fs) (current_tree o) o last
+    ⊎ ((h : Halted steps (current_tree o) new (fresh_nodes (current_tree o) (next_number o + 1) fs) o last) × (h.m ≡ 0))
+
+-- Where a call among the steps or the markers failed, `at-m` stands with some of the steps from m to the next cut done.
 abbrev pub FailedStepsHalt : Type 0
 FailedStepsHalt =
     (steps : List Step) (fs : List Fresh) (journal : List ℕ) (hs : List Held) (new : FileTree) (o : History) → IsDurable o → IsSound o
@@ -70,6 +69,21 @@ FailedSealsGoForward =
     → (last : History) (before : FileTree) (first : CallName) → FailedIn (seal_calls ++ cleaning_calls hs (length steps)) (stepped_history steps fs journal o) last before first
     → (c : FileTree) → IsCrashState last c → GoesForward steps (current_tree o) new (fresh_nodes (current_tree o) (next_number o + 1) fs) c
 
+-- ---- without a journal
+
+-- The names are removed and then the directory. Where it doesn't stand a sync does it.
+abbrev pub UnplannedGoBack : Type 0
+UnplannedGoBack =
+    (steps : List Step) (old new : FileTree) (fresh : List Node) (target : FileTree) (began now : History) → (target ≡ old) ⊎ (target ≡ new)
+    → Unplanned steps old new fresh target began now → (xs : List (List ℕ)) → Unstages xs (current_tree now)
+    → LeadsSafely (IsInterrupted steps old new fresh) target began now (unstage_calls xs ++ call.Sync ∷ [])
+
+abbrev pub UnstagedGoBack : Type 0
+UnstagedGoBack =
+    (steps : List Step) (old new : FileTree) (fresh : List Node) (target : FileTree) (began now : History) → (target ≡ old) ⊎ (target ≡ new)
+    → Unplanned steps old new fresh target began now → IsAbsent (current_tree now) staging
+    → LeadsSafely (IsInterrupted steps old new fresh) target began now (call.Sync ∷ [])
+
 -- ---- forward from `at-m`
 
 -- What is left of its group is done, then the groups behind it, the seal and the cleaning.
@@ -82,18 +96,6 @@ HaltsGoForward =
 
 -- ---- back
 
--- `plan` and `back-m` stand, and any of the steps from the last cut, k, to m are done.
-pub record Turned (steps : List Step) (old new : FileTree) (fresh : List Node) (began now : History) : Type 0 where
-  pub k : ℕ
-  pub m : ℕ
-  pub u : FileTree
-  pub le : m ≤ length steps
-  pub cut : m ≡ k + length (from_last_cut m (groups steps))
-  pub comes : ComesBySome (from_last_cut m (groups steps)) (after (take k steps) (start old fresh)) u
-  pub stands : StandsAs steps (back_marker m) u (current_tree now)
-  pub moments : LeavesOnly began now (IsInterrupted steps old new fresh)
-  pub sound : IsSound now
-
 -- Those of its group that were done are undone, then the groups before it, and the staging directory is cleared.
 abbrev pub TurnedGoBack : Type 0
 TurnedGoBack =
@@ -101,15 +103,6 @@ TurnedGoBack =
     → IsTree old → IsAbsent old staging → CleansItems (fresh_items 0 fs) (start old fresh) → (b : Turned steps old new fresh began now)
     → LeadsSafely (IsInterrupted steps old new fresh) old began now
     (call.Sync ∷ (home_calls steps b.m (taken_of (from_last_cut b.m (groups steps)) (after (take b.k steps) (start old fresh)) b.u b.comes) ++ end_calls fs))
-
--- From `at-m` the marker turns round, at m if none of the steps from m to the next cut was done, and else at that cut. From the last
--- cut before that place, k, to it some steps were done.
-pub record TurnsRound (steps : List Step) (old : FileTree) (fresh : List Node) (m : ℕ) (u : FileTree) (taken : List Step) : Type 0 where
-  pub j : ℕ
-  pub j_is : j ≡ turn_place steps m taken
-  pub k : ℕ
-  pub cut : j ≡ k + length (from_last_cut j (groups steps))
-  pub comes : ComesBySome (from_last_cut j (groups steps)) (after (take k steps) (start old fresh)) u
 
 -- These are undone, and so on back.
 abbrev pub HaltsGoBack : Type 0

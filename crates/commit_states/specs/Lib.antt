@@ -1,4 +1,5 @@
 pub mod Interrupted
 pub mod Calls
 pub mod Fits
+pub mod Stops
 pub mod Laws

@@ -2,10 +2,13 @@
 ghost use Rattle.commit_states.specs.Laws.{
   CommitsAreSafe,
   FailedSealsGoForward,
+  FailedStagingsStop,
   FailedStepsHalt,
   HaltsGoBack,
   HaltsGoForward,
   TurnedGoBack,
+  UnplannedGoBack,
+  UnstagedGoBack,
 };
 
 /// A commit whose steps, fresh entries, journal and held entries fit the tree, which is durable: its calls can be done one after
@@ -15,11 +18,20 @@ pub fn commits_are_safe()
     ensures { CommitsAreSafe }
 {}
 
-/// Where a call of a commit failed. Among the steps and their markers: `plan` and a marker `at-m` stand, and any of the steps from
+/// Where a call of a commit failed. While the staging directory is filled: no journal has its name yet, in the tree that reads and in
+/// whatever a crash leaves, or `at-0` stands and no step is done. Among the steps and their markers: `plan` and a marker `at-m` stand, and any of the steps from
 /// m to the next cut are done. At the seal or behind it: whatever a crash leaves, recovery forward ends with the edited tree.
 pub fn failed_calls_leave_rows()
+    ensures staging { FailedStagingsStop }
     ensures steps { FailedStepsHalt }
     ensures seal { FailedSealsGoForward }
+{}
+
+/// The way back, and recovery, where no journal has its name: the names are removed and then the directory, if it stands. A crash at
+/// any moment leaves an interrupted tree, and behind them the rest that stood is the tree, with nothing pending.
+pub fn unplanned_go_back()
+    ensures names { UnplannedGoBack }
+    ensures absent { UnstagedGoBack }
 {}
 
 /// Recovery forward from `at-m`: the steps that are left up to the next cut, the groups behind it, the seal and the cleaning. A

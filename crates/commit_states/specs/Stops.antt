@@ -1,0 +1,71 @@
+-- Where a commit, a way back or a recovery may stand when it stops and is not crashed.
+use Rattle.std.specs.Prelude.{◌≡◌, ◌⊎◌, ℕ, ◌+◌, ◌≤◌, List, length, take}
+use Rattle.tree_core.specs.declared.node.Node.{Node}
+use Rattle.tree_core.specs.FileTree.{FileTree, IsAbsent, IsDir}
+use Rattle.tree_core.specs.History.{History, Began, IsSound, current_tree, next_number, IsCrashState, LeavesOnly}
+use Rattle.commit_steps.specs.declared.step.Step.{Step}
+use Rattle.commit_steps.specs.Staging.{staging, new_journal, at_marker, back_marker}
+use Rattle.step_trees.specs.Entries.{rest, IsFresh, HoldsOnly}
+use Rattle.step_trees.specs.Steps.{after}
+use Rattle.step_trees.specs.Groups.{groups, to_next_cut, from_last_cut, ComesBySome}
+use Rattle.step_trees.specs.Leads.{start}
+use Rattle.commit_states.specs.Interrupted.{IsOne, StandsAs, IsInterrupted}
+use Rattle.commit_states.specs.Calls.{turn_place}
+
+-- ---- before the journal has its name
+
+-- the names of a staging directory without a journal
+abbrev pub IsEarly : List ℕ → Node → Type 0
+IsEarly name node = IsOne new_journal name node ⊎ (IsOne (at_marker 0) name node ⊎ IsFresh name node)
+
+-- the staging directory stands with such names alone
+pub record Filling (target t : FileTree) : Type 0 where
+  pub dir : IsDir t staging
+  pub only : HoldsOnly t IsEarly
+  pub is : rest t ≡ target
+
+-- or it doesn't stand yet
+abbrev pub IsStaging : FileTree → FileTree → Type 0
+IsStaging target t = (IsAbsent t staging × (t ≡ target)) ⊎ Filling target t
+
+-- So it is of the tree that reads, and of all that a crash may leave now. The rest is the target: the old tree, or in a recovery the
+-- edited one. Since a run began nothing was left but interrupted trees.
+pub record Unplanned (steps : List Step) (old new : FileTree) (fresh : List Node) (target : FileTree) (began now : History) : Type 0 where
+  pub moments : LeavesOnly began now (IsInterrupted steps old new fresh)
+  pub sound : IsSound now
+  pub reads : IsStaging target (current_tree now)
+  pub each : (c : FileTree) → IsCrashState now c → IsSound (Began c (next_number now)) × IsStaging target c
+
+-- ---- with the journal
+
+-- `plan` and `at-m` stand, and any of the steps from m to the next cut are done. Since a run began nothing was left but
+-- interrupted trees.
+pub record Halted (steps : List Step) (old new : FileTree) (fresh : List Node) (began now : History) : Type 0 where
+  pub m : ℕ
+  pub u : FileTree
+  pub le : m ≤ length steps
+  pub comes : ComesBySome (to_next_cut m (groups steps)) (after (take m steps) (start old fresh)) u
+  pub stands : StandsAs steps (at_marker m) u (current_tree now)
+  pub moments : LeavesOnly began now (IsInterrupted steps old new fresh)
+  pub sound : IsSound now
+
+-- `plan` and `back-m` stand, and any of the steps from the last cut, k, to m are done.
+pub record Turned (steps : List Step) (old new : FileTree) (fresh : List Node) (began now : History) : Type 0 where
+  pub k : ℕ
+  pub m : ℕ
+  pub u : FileTree
+  pub le : m ≤ length steps
+  pub cut : m ≡ k + length (from_last_cut m (groups steps))
+  pub comes : ComesBySome (from_last_cut m (groups steps)) (after (take k steps) (start old fresh)) u
+  pub stands : StandsAs steps (back_marker m) u (current_tree now)
+  pub moments : LeavesOnly began now (IsInterrupted steps old new fresh)
+  pub sound : IsSound now
+
+-- From `at-m` the marker turns round, at m if none of the steps from m to the next cut was done, and else at that cut. From the last
+-- cut before that place, k, to it some steps were done.
+pub record TurnsRound (steps : List Step) (old : FileTree) (fresh : List Node) (m : ℕ) (u : FileTree) (taken : List Step) : Type 0 where
+  pub j : ℕ
+  pub j_is : j ≡ turn_place steps m taken
+  pub k : ℕ
+  pub cut : j ≡ k + length (from_last_cut j (groups steps))
+  pub comes : ComesBySome (from_last_cut j (groups steps)) (after (take k steps) (start old fresh)) u
