@@ -8,14 +8,14 @@ use Rattle.tree_core.specs.declared.node.Node.{Node}
 use Rattle.tree_core.specs.declared.node.Node.TheVariants.{Dir, Link, File}
 use Rattle.tree_core.specs.declared.node.Change.TheVariants as call
 use Rattle.tree_core.specs.FileTree.{FileTree, IsTree, CanRename, IsAbsent, IsDir, IsFile, Stands, CanDo, done, renamed, is_dir_node, is_file_node}
-use Rattle.tree_core.specs.History.{History, Then, IsSound, current_tree, next_number, is_sync}
+use Rattle.tree_core.specs.History.{History, Then, IsSound, current_tree, next_number, is_sync, IsDurable, LeavesOnly}
 use Rattle.tree_core.specs.Runs.{then_all}
 use Rattle.tree_core.proofs.TreeLemmas.{absent_below, none_of, absent_not}
-use Rattle.tree_core.proofs.Sound.{was_there}
-use Rattle.tree_core.proofs.Moments.{Keeps}
-use Rattle.tree_core.proofs.Runs.{IsClosed, sound_all}
+use Rattle.tree_core.proofs.Sound.{was_there, sound_then}
+use Rattle.tree_core.proofs.Moments.{Keeps, durable-sync, goes_on-sync, pending-durable}
+use Rattle.tree_core.proofs.Runs.{IsClosed, IsSafe, closed_synced, safe_append, safe_all, safe_can, sound_all, then_all-append}
 use Rattle.commit_states.proofs.StandLemmas.{absent_own, staging_stands, shown_bare, journal_kept}
-use Rattle.commit_states.specs.Calls.{removal_by, Items, CleansItems, removals_of, last_of}
+use Rattle.commit_states.specs.Calls.{removal_by, Items, CleansItems, removals_of, last_of, ClearsItems, removals_by, close_calls}
 use Rattle.commit_states.specs.Interrupted.{bare, IsFileNode, IsOne, JournalAt, StandsAfter}
 use Rattle.commit_steps.specs.Staging.{staging, staged, plan}
 use Rattle.commit_steps.specs.declared.step.Step.{Step}
@@ -230,6 +230,58 @@ module _ (jn mk : List ℕ) (own_j : IsOwn jn) (own_m : IsOwn mk) (sealed_plan :
 
     pub all_gone : IsAbsent (current_tree (then_all h (last_of jn))) staging × (current_tree (then_all h (last_of jn)) ≡ target)
     all_gone = gone (remove (current_tree h) (staged jn)) sound_emptied.tree e
+
+  -- ---- all of it by the names that stand, behind a sync
+
+  pub record Emptied_by (h : History) (xs : Items) : Type 0 where
+    pub closed : IsClosed Sealed h (removals_by xs)
+    pub last : Last (current_tree (then_all h (removals_by xs)))
+
+  empty_by : (xs : Items) (h : History) → ClearsItems jn xs (current_tree h) → Sealed (current_tree h) → Emptied_by h xs
+  empty_by [] h clears s = record { closed = tt; last = record { dir = s.dir; journal = s.journal; only = clears; is = s.is } }
+  empty_by (x ∷ xs) h clears s =
+      let is = removal_done x.1 (staged x.0) (next_number h) (current_tree h) in
+      let more = empty_by xs (Then h (removal_by x.1 (staged x.0))) (subst (ClearsItems jn xs) (sym is) clears.2) (subst Sealed (sym is) (sealed_less (current_tree h) x.0 clears.0 s)) in
+      record { closed = (removal_no_sync x.1 (staged x.0), clears.1, keeps_removal x.0 x.1 (next_number h) clears.0, more.closed); last = more.last }
+
+  module _ (P : FileTree → Type 0) (at_sealed : (t : FileTree) → Sealed t → P t) (at_last : (t : FileTree) → IsLast t → P t)
+      (began now : History) (moments : LeavesOnly began now P) (sound : IsSound now) (s : Sealed (current_tree now)) (xs : Items) (clears : ClearsItems jn xs (current_tree now)) where
+    abbrev synced : History
+    synced = Then now call.Sync
+
+    sound_synced : IsSound synced
+    sound_synced = sound_then call.Sync now sound tt
+
+    emptied_by : Emptied_by synced xs
+    emptied_by = empty_by xs synced clears s
+
+    safe_removals : IsSafe began P synced (removals_by xs ++ call.Sync ∷ [])
+    safe_removals = closed_synced began P Sealed synced (removals_by xs) at_sealed (goes_on-sync began now P moments (at_sealed (current_tree now) s))
+        (pending-durable synced Sealed (durable-sync now) sound_synced s) emptied_by.closed
+
+    abbrev cleared : History
+    cleared = then_all synced (removals_by xs ++ call.Sync ∷ [])
+
+    is_cleared : cleared ≡ Then (then_all synced (removals_by xs)) call.Sync
+    is_cleared = then_all-append synced (removals_by xs) (call.Sync ∷ [])
+
+    sound_cleared : IsSound cleared
+    sound_cleared = sound_all synced (removals_by xs ++ call.Sync ∷ []) sound_synced (safe_can began P synced (removals_by xs ++ call.Sync ∷ []) safe_removals)
+
+    last_cleared : Last (current_tree cleared)
+    last_cleared = subst (λ (h : History). Last (current_tree h)) (sym is_cleared) emptied_by.last
+
+    safe_last : IsSafe began P cleared (last_of jn ++ call.Sync ∷ [])
+    safe_last = closed_synced began P IsLast cleared (last_of jn) at_last (safe_all began P synced (removals_by xs ++ call.Sync ∷ []) safe_removals)
+        (pending-durable cleared IsLast (subst IsDurable (sym is_cleared) (durable-sync (then_all synced (removals_by xs)))) sound_cleared (inl last_cleared)) (closed_last cleared last_cleared sound_cleared)
+
+    pub safe_close : IsSafe began P now (call.Sync ∷ close_calls jn xs)
+    safe_close = (moments, tt, safe_append began P synced (removals_by xs ++ call.Sync ∷ []) (last_of jn ++ call.Sync ∷ []) safe_removals safe_last)
+
+    pub done_close : (current_tree (then_all synced (close_calls jn xs)) ≡ target) × IsDurable (then_all synced (close_calls jn xs))
+    done_close = subst (λ (h : History). (current_tree h ≡ target) × IsDurable h) (sym (then_all-append synced (removals_by xs ++ call.Sync ∷ []) (last_of jn ++ call.Sync ∷ [])))
+        (subst (λ (h : History). (current_tree h ≡ target) × IsDurable h) (sym (then_all-append cleared (last_of jn) (call.Sync ∷ [])))
+        ((all_gone cleared last_cleared sound_cleared).1, durable-sync (then_all cleared (last_of jn))))
 
 -- ---- the journal gets its last name
 

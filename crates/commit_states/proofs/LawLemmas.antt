@@ -13,7 +13,7 @@ use Rattle.tree_core.proofs.Runs.{IsSafe, closed_synced, safe_all, safe_can, saf
 use Rattle.tree_core.proofs.Moments.{Pending, durable-sync}
 use Rattle.step_trees.proofs.RemovalLemmas.{no_dir}
 use Rattle.commit_steps.specs.declared.step.Step.{Step}
-use Rattle.commit_steps.specs.Staging.{staging}
+use Rattle.commit_steps.specs.Staging.{staging, sealed, undone}
 use Rattle.commit_steps.specs.Steps.{HasPaths}
 use Rattle.step_trees.specs.Steps.{after}
 use Rattle.step_trees.specs.Groups.{groups, to_next_cut, from_last_cut, left_of, taken_of}
@@ -22,9 +22,9 @@ use Rattle.step_trees.proofs.LeadLemmas.{Led, led}
 use Rattle.step_trees.proofs.PlaceLemmas.{all_remain}
 use Rattle.commit_states.specs.declared.held.Held.{Held}
 use Rattle.commit_states.specs.Interrupted.{StandsAs, IsInterrupted, nothing_staged, no_journal, GoesForward}
-use Rattle.commit_states.specs.Calls.{fresh_nodes, commit_calls, staging_calls, unstage_calls, Unstages, calls_from, resume_calls, seal_calls, cleaning_calls, Cleans, turn_calls, home_calls, end_calls, fresh_items, CleansItems}
+use Rattle.commit_states.specs.Calls.{fresh_nodes, commit_calls, staging_calls, unstage_calls, Unstages, Items, ClearsItems, close_calls, calls_from, resume_calls, seal_calls, cleaning_calls, Cleans, turn_calls, home_calls, end_calls, fresh_items, CleansItems}
 use Rattle.commit_states.specs.Fits.{Fits}
-use Rattle.commit_states.specs.Stops.{IsStaging, Unplanned, Halted, Turned, TurnsRound}
+use Rattle.commit_states.specs.Stops.{IsStaging, Unplanned, Halted, Turned, TurnsRound, BehindSeal, AllUndone}
 use Rattle.commit_states.specs.Laws.{LeadsSafely, staged_history, stepped_history}
 use Rattle.commit_states.proofs.CommitLemmas.{safe_commit, done_commit, leads, journal_is, ready1, gone}
 use Rattle.commit_states.proofs.HaltLemmas.{halted}
@@ -33,6 +33,10 @@ use Rattle.commit_states.proofs.ReturnLemmas.{safe_back, done_back, at_turn, saf
 use Rattle.commit_states.proofs.UncleanLemmas.{unclean}
 use Rattle.commit_states.proofs.StageLemmas.{failed_staging}
 use Rattle.commit_states.proofs.UnstageLemmas.{safe_unstage, done_unstage}
+use Rattle.step_trees.specs.Entries.{IsHeld}
+use Rattle.step_trees.proofs.NameLemmas.{own-sealed, own-undone, own-back}
+use Rattle.commit_states.proofs.CloseLemmas.{Sealed, safe_close, done_close}
+use Rattle.commit_states.proofs.SealLemmas.{mk, own, sealed_plan, plan_mk, sealed_mk, less_held, sealed_gives, last_gives, back0, undone_plan, plan_back0, undone_back0, Fresh_, less_fresh, undone_gives, old_gives}
 
 pub leads_safely : (P : FileTree → Type 0) (target : FileTree) (began now : History) (changes : List Change) → IsSafe began P now changes
     → (current_tree (then_all now changes) ≡ target) × IsDurable (then_all now changes) → LeadsSafely P target began now changes
@@ -145,3 +149,23 @@ module _ (steps : List Step) (old new : FileTree) (fresh : List Node) where
               (safe_back_at steps old new fresh l few tree absent fs cleans began now h.moments h.sound h.m h.u h.le h.comes h.stands)
               (done_back_at steps old new fresh l few tree absent fs cleans began now h.moments h.sound h.m h.u h.le h.comes h.stands),
         )
+
+  -- ---- from `done` and `undone`
+
+  pub seals_go_on : (began now : History) → Leads steps old new fresh → BehindSeal steps old new fresh began now → (xs : Items) → ClearsItems sealed xs (current_tree now)
+      → LeadsSafely P new began now (call.Sync ∷ close_calls sealed xs)
+  seals_go_on began now leads b xs clears =
+      let l = led steps old new fresh leads b.journal.spelled.journal.journal.spelled.paths in
+      let s : Sealed sealed (mk steps) own-sealed (own steps) sealed_plan (plan_mk steps) (sealed_mk steps) steps new IsHeld less_held (current_tree now) = record { dir = b.dir; journal = b.journal; only = b.only; is = b.is } in
+      leads_safely P new began now (call.Sync ∷ close_calls sealed xs)
+      (safe_close sealed (mk steps) own-sealed (own steps) sealed_plan (plan_mk steps) (sealed_mk steps) steps new IsHeld less_held P (sealed_gives steps old new fresh l) (last_gives steps old new fresh l) began now b.moments b.sound s xs clears)
+      (done_close sealed (mk steps) own-sealed (own steps) sealed_plan (plan_mk steps) (sealed_mk steps) steps new IsHeld less_held P (sealed_gives steps old new fresh l) (last_gives steps old new fresh l) began now b.moments b.sound s xs clears)
+
+  pub undone_go_on : (began now : History) → Leads steps old new fresh → AllUndone steps old new fresh began now → (xs : Items) → ClearsItems undone xs (current_tree now)
+      → LeadsSafely P old began now (call.Sync ∷ close_calls undone xs)
+  undone_go_on began now leads b xs clears =
+      let l = led steps old new fresh leads b.journal.spelled.journal.journal.spelled.paths in
+      let s : Sealed undone back0 own-undone (own-back 0) undone_plan plan_back0 undone_back0 steps old Fresh_ less_fresh (current_tree now) = record { dir = b.dir; journal = b.journal; only = b.only; is = b.is } in
+      leads_safely P old began now (call.Sync ∷ close_calls undone xs)
+      (safe_close undone back0 own-undone (own-back 0) undone_plan plan_back0 undone_back0 steps old Fresh_ less_fresh P (undone_gives steps old new fresh l) (old_gives steps old new fresh l) began now b.moments b.sound s xs clears)
+      (done_close undone back0 own-undone (own-back 0) undone_plan plan_back0 undone_back0 steps old Fresh_ less_fresh P (undone_gives steps old new fresh l) (old_gives steps old new fresh l) began now b.moments b.sound s xs clears)

@@ -1,5 +1,5 @@
 -- The changing calls of a commit, in order.
-use Rattle.std.specs.Prelude.{ℕ, ◌+◌, ◌-◌, List, [], ◌∷◌, ◌++◌, length, ◌==◌, if◌then◌else◌, nat_lt, Bool, true, false, Option, Some, None, IsTrue}
+use Rattle.std.specs.Prelude.{◌≡◌, ◌≢◌, ℕ, ◌+◌, ◌-◌, List, [], ◌∷◌, ◌++◌, length, ◌==◌, if◌then◌else◌, nat_lt, Bool, true, false, Option, Some, None, IsTrue}
 use Rattle.std.specs.FinMap.{get, remove}
 use Rattle.std.specs.Str.{is_utf8}
 use Rattle.dired_text.specs.Paths.{Names}
@@ -128,6 +128,20 @@ resume_calls steps m left =
 -- the journal of this name, and then the directory
 abbrev pub last_of : List ℕ → List Change
 last_of journal = call.Remove (staged journal) ∷ call.RemoveDir staging ∷ []
+
+-- These names, none of them the journal's, can be removed from the staging directory, one after another, and then only the journal
+-- is left in it.
+abbrev pub ClearsItems : List ℕ → Items → FileTree → Type 0
+ClearsItems journal [] t = HoldsOnly t (λ name node. name ≡ journal)
+ClearsItems journal (x ∷ xs) t = (x.0 ≢ journal) × CanDo (removal_by x.1 (staged x.0)) t × ClearsItems journal xs (remove t (staged x.0))
+
+abbrev pub removals_by : Items → List Change
+removals_by [] = []
+removals_by (x ∷ xs) = removal_by x.1 (staged x.0) ∷ removals_by xs
+
+-- all that stands besides the journal, and then that and the directory
+abbrev pub close_calls : List ℕ → Items → List Change
+close_calls journal xs = (removals_by xs ++ call.Sync ∷ []) ++ (last_of journal ++ call.Sync ∷ [])
 
 abbrev pub last_calls : List Change
 last_calls = last_of sealed

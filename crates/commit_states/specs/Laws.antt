@@ -9,15 +9,15 @@ use Rattle.tree_core.specs.FileTree.{FileTree, IsTree, IsAbsent}
 use Rattle.tree_core.specs.History.{History, Then, IsSound, current_tree, next_number, IsCrashState, IsDurable, LeavesOnly}
 use Rattle.tree_core.specs.Runs.{then_all, CanAll, FailedIn}
 use Rattle.commit_steps.specs.declared.step.Step.{Step}
-use Rattle.commit_steps.specs.Staging.{staging, at_marker, back_marker}
+use Rattle.commit_steps.specs.Staging.{staging, sealed, undone}
 use Rattle.step_trees.specs.Steps.{after}
 use Rattle.step_trees.specs.Groups.{groups, to_next_cut, from_last_cut, ComesBySome, left_of, taken_of}
 use Rattle.step_trees.specs.Leads.{start, Leads}
 use Rattle.commit_states.specs.declared.held.Held.{Held}
 use Rattle.commit_states.specs.Interrupted.{StandsAs, IsInterrupted, GoesForward}
-use Rattle.commit_states.specs.Calls.{fresh_nodes, commit_calls, staging_calls, calls_from, resume_calls, seal_calls, cleaning_calls, Cleans, turn_place, turn_calls, home_calls, end_calls, fresh_items, CleansItems, unstage_calls, Unstages}
+use Rattle.commit_states.specs.Calls.{fresh_nodes, commit_calls, staging_calls, calls_from, resume_calls, seal_calls, cleaning_calls, Cleans, turn_place, turn_calls, home_calls, end_calls, fresh_items, CleansItems, unstage_calls, Unstages, Items, ClearsItems, close_calls}
 use Rattle.commit_states.specs.Fits.{Fits}
-use Rattle.commit_states.specs.Stops.{Unplanned, Halted, Turned, TurnsRound}
+use Rattle.commit_states.specs.Stops.{Unplanned, Halted, Turned, TurnsRound, BehindSeal, AllUndone}
 
 -- These calls, from now on, can be done one after another. A crash at any moment since a run began leaves a tree that has P, also
 -- where one of them fails and is the last. Behind them all the target stands, and nothing is pending.
@@ -112,3 +112,16 @@ HaltsGoBack =
     → (t : TurnsRound steps old fresh h.m h.u (taken_of (to_next_cut h.m (groups steps)) (after (take h.m steps) (start old fresh)) h.u h.comes))
     × LeadsSafely (IsInterrupted steps old new fresh) old began now
     (call.Sync ∷ (turn_calls h.m t.j ++ (home_calls steps t.j (taken_of (from_last_cut t.j (groups steps)) (after (take t.k steps) (start old fresh)) h.u t.comes) ++ end_calls fs)))
+
+-- ---- from `done` and `undone`
+
+-- What stands besides the journal is removed in whatever order, and then that and the directory.
+abbrev pub SealsGoForward : Type 0
+SealsGoForward =
+    (steps : List Step) (old new : FileTree) (fresh : List Node) (began now : History) → Leads steps old new fresh → BehindSeal steps old new fresh began now
+    → (xs : Items) → ClearsItems sealed xs (current_tree now) → LeadsSafely (IsInterrupted steps old new fresh) new began now (call.Sync ∷ close_calls sealed xs)
+
+abbrev pub UndoneGoBack : Type 0
+UndoneGoBack =
+    (steps : List Step) (old new : FileTree) (fresh : List Node) (began now : History) → Leads steps old new fresh → AllUndone steps old new fresh began now
+    → (xs : Items) → ClearsItems undone xs (current_tree now) → LeadsSafely (IsInterrupted steps old new fresh) old began now (call.Sync ∷ close_calls undone xs)

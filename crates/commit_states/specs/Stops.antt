@@ -4,12 +4,12 @@ use Rattle.tree_core.specs.declared.node.Node.{Node}
 use Rattle.tree_core.specs.FileTree.{FileTree, IsAbsent, IsDir}
 use Rattle.tree_core.specs.History.{History, Began, IsSound, current_tree, next_number, IsCrashState, LeavesOnly}
 use Rattle.commit_steps.specs.declared.step.Step.{Step}
-use Rattle.commit_steps.specs.Staging.{staging, new_journal, at_marker, back_marker}
-use Rattle.step_trees.specs.Entries.{rest, IsFresh, HoldsOnly}
+use Rattle.commit_steps.specs.Staging.{staging, sealed, undone, new_journal, at_marker, back_marker}
+use Rattle.step_trees.specs.Entries.{rest, IsHeld, IsFresh, HoldsOnly}
 use Rattle.step_trees.specs.Steps.{after}
 use Rattle.step_trees.specs.Groups.{groups, to_next_cut, from_last_cut, ComesBySome}
 use Rattle.step_trees.specs.Leads.{start}
-use Rattle.commit_states.specs.Interrupted.{IsOne, StandsAs, IsInterrupted}
+use Rattle.commit_states.specs.Interrupted.{JournalAt, IsOne, StandsAs, IsInterrupted}
 use Rattle.commit_states.specs.Calls.{turn_place}
 
 -- ---- before the journal has its name
@@ -69,3 +69,21 @@ pub record TurnsRound (steps : List Step) (old : FileTree) (fresh : List Node) (
   pub k : ℕ
   pub cut : j ≡ k + length (from_last_cut j (groups steps))
   pub comes : ComesBySome (from_last_cut j (groups steps)) (after (take k steps) (start old fresh)) u
+
+-- `done` stands: other names are among `hN` and `at-n`, and the rest is the edited tree.
+pub record BehindSeal (steps : List Step) (old new : FileTree) (fresh : List Node) (began now : History) : Type 0 where
+  pub dir : IsDir (current_tree now) staging
+  pub journal : JournalAt (current_tree now) sealed steps
+  pub only : HoldsOnly (current_tree now) (λ name node. (name ≡ sealed) ⊎ (IsHeld (current_tree now) name node ⊎ IsOne (at_marker (length steps)) name node))
+  pub is : rest (current_tree now) ≡ new
+  pub moments : LeavesOnly began now (IsInterrupted steps old new fresh)
+  pub sound : IsSound now
+
+-- `undone` stands: other names are among `fN` and `back-0`, and the rest is the old tree.
+pub record AllUndone (steps : List Step) (old new : FileTree) (fresh : List Node) (began now : History) : Type 0 where
+  pub dir : IsDir (current_tree now) staging
+  pub journal : JournalAt (current_tree now) undone steps
+  pub only : HoldsOnly (current_tree now) (λ name node. (name ≡ undone) ⊎ (IsFresh name node ⊎ IsOne (back_marker 0) name node))
+  pub is : rest (current_tree now) ≡ old
+  pub moments : LeavesOnly began now (IsInterrupted steps old new fresh)
+  pub sound : IsSound now

@@ -6,7 +6,9 @@ ghost use Rattle.commit_states.specs.Laws.{
   FailedStepsHalt,
   HaltsGoBack,
   HaltsGoForward,
+  SealsGoForward,
   TurnedGoBack,
+  UndoneGoBack,
   UnplannedGoBack,
   UnstagedGoBack,
 };
@@ -50,4 +52,12 @@ pub fn halts_go_back()
 /// The same from `back-m` on.
 pub fn turned_go_back()
     ensures { TurnedGoBack }
+{}
+
+/// Recovery where `done` stands: what else stands in the staging directory is removed in whatever order, then the journal and the
+/// directory. A crash at any moment leaves an interrupted tree, and behind them the edited tree stands, with nothing pending. Where
+/// `undone` stands the same leads to the old tree.
+pub fn closed_ones_are_cleared()
+    ensures sealed { SealsGoForward }
+    ensures undone { UndoneGoBack }
 {}

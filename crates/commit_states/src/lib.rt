@@ -7,6 +7,6 @@ mod laws;
 
 pub use held::Held;
 pub use laws::{
-    commits_are_safe, failed_calls_leave_rows, halts_go_back, halts_go_forward, turned_go_back,
-    unplanned_go_back,
+    closed_ones_are_cleared, commits_are_safe, failed_calls_leave_rows, halts_go_back,
+    halts_go_forward, turned_go_back, unplanned_go_back,
 };
