@@ -15,3 +15,4 @@ pub mod ResumeLemmas
 pub mod UnstageLemmas
 pub mod UncleanLemmas
 pub mod LawLemmas
+pub mod PhaseLemmas

@@ -3,3 +3,4 @@ pub mod Calls
 pub mod Fits
 pub mod Stops
 pub mod Laws
+pub mod Phases

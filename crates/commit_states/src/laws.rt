@@ -12,6 +12,13 @@ ghost use Rattle.commit_states.specs.Laws.{
   UnplannedGoBack,
   UnstagedGoBack,
 };
+ghost use Rattle.commit_states.specs.Phases.{JournalsTell, RowsExclude};
+
+/// What stands tells the row of the table and the place of the marker, and where a journal stands the steps, whatever the commit was.
+pub fn rows_exclude_one_another()
+    ensures rows { RowsExclude }
+    ensures steps { JournalsTell }
+{}
 
 /// A commit whose steps, fresh entries, journal and held entries fit the tree, which is durable: its calls can be done one after
 /// another; a crash at any moment leaves an interrupted tree, also where a call fails and is the last; behind them the edited tree
