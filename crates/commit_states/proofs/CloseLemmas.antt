@@ -233,11 +233,11 @@ module _ (jn mk : List ℕ) (own_j : IsOwn jn) (own_m : IsOwn mk) (sealed_plan :
 
   -- ---- all of it by the names that stand, behind a sync
 
-  pub record Emptied_by (h : History) (xs : Items) : Type 0 where
+  pub record EmptiedBy (h : History) (xs : Items) : Type 0 where
     pub closed : IsClosed Sealed h (removals_by xs)
     pub last : Last (current_tree (then_all h (removals_by xs)))
 
-  empty_by : (xs : Items) (h : History) → ClearsItems jn xs (current_tree h) → Sealed (current_tree h) → Emptied_by h xs
+  empty_by : (xs : Items) (h : History) → ClearsItems jn xs (current_tree h) → Sealed (current_tree h) → EmptiedBy h xs
   empty_by [] h clears s = record { closed = tt; last = record { dir = s.dir; journal = s.journal; only = clears; is = s.is } }
   empty_by (x ∷ xs) h clears s =
       let is = removal_done x.1 (staged x.0) (next_number h) (current_tree h) in
@@ -252,7 +252,7 @@ module _ (jn mk : List ℕ) (own_j : IsOwn jn) (own_m : IsOwn mk) (sealed_plan :
     sound_synced : IsSound synced
     sound_synced = sound_then call.Sync now sound tt
 
-    emptied_by : Emptied_by synced xs
+    emptied_by : EmptiedBy synced xs
     emptied_by = empty_by xs synced clears s
 
     safe_removals : IsSafe began P synced (removals_by xs ++ call.Sync ∷ [])

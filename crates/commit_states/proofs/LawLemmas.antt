@@ -36,7 +36,7 @@ use Rattle.commit_states.proofs.UnstageLemmas.{safe_unstage, done_unstage}
 use Rattle.step_trees.specs.Entries.{IsHeld}
 use Rattle.step_trees.proofs.NameLemmas.{own-sealed, own-undone, own-back}
 use Rattle.commit_states.proofs.CloseLemmas.{Sealed, safe_close, done_close}
-use Rattle.commit_states.proofs.SealLemmas.{mk, own, sealed_plan, plan_mk, sealed_mk, less_held, sealed_gives, last_gives, back0, undone_plan, plan_back0, undone_back0, Fresh_, less_fresh, undone_gives, old_gives}
+use Rattle.commit_states.proofs.SealLemmas.{IsSealed, IsUndone, last_marker, own-last_marker, sealed_plan, plan-last_marker, sealed-last_marker, less_held, sealed_gives, last_gives, back0, undone_plan, plan_back0, undone_back0, FreshIn, less_fresh, undone_gives, old_gives}
 
 pub leads_safely : (P : FileTree → Type 0) (target : FileTree) (began now : History) (changes : List Change) → IsSafe began P now changes
     → (current_tree (then_all now changes) ≡ target) × IsDurable (then_all now changes) → LeadsSafely P target began now changes
@@ -156,16 +156,16 @@ module _ (steps : List Step) (old new : FileTree) (fresh : List Node) where
       → LeadsSafely P new began now (call.Sync ∷ close_calls sealed xs)
   seals_go_on began now leads b xs clears =
       let l = led steps old new fresh leads b.journal.spelled.journal.journal.spelled.paths in
-      let s : Sealed sealed (mk steps) own-sealed (own steps) sealed_plan (plan_mk steps) (sealed_mk steps) steps new IsHeld less_held (current_tree now) = record { dir = b.dir; journal = b.journal; only = b.only; is = b.is } in
+      let s : IsSealed steps new (current_tree now) = record { dir = b.dir; journal = b.journal; only = b.only; is = b.is } in
       leads_safely P new began now (call.Sync ∷ close_calls sealed xs)
-      (safe_close sealed (mk steps) own-sealed (own steps) sealed_plan (plan_mk steps) (sealed_mk steps) steps new IsHeld less_held P (sealed_gives steps old new fresh l) (last_gives steps old new fresh l) began now b.moments b.sound s xs clears)
-      (done_close sealed (mk steps) own-sealed (own steps) sealed_plan (plan_mk steps) (sealed_mk steps) steps new IsHeld less_held P (sealed_gives steps old new fresh l) (last_gives steps old new fresh l) began now b.moments b.sound s xs clears)
+      (safe_close sealed (last_marker steps) own-sealed (own-last_marker steps) sealed_plan (plan-last_marker steps) (sealed-last_marker steps) steps new IsHeld less_held P (sealed_gives steps old new fresh l) (last_gives steps old new fresh l) began now b.moments b.sound s xs clears)
+      (done_close sealed (last_marker steps) own-sealed (own-last_marker steps) sealed_plan (plan-last_marker steps) (sealed-last_marker steps) steps new IsHeld less_held P (sealed_gives steps old new fresh l) (last_gives steps old new fresh l) began now b.moments b.sound s xs clears)
 
   pub undone_go_on : (began now : History) → Leads steps old new fresh → AllUndone steps old new fresh began now → (xs : Items) → ClearsItems undone xs (current_tree now)
       → LeadsSafely P old began now (call.Sync ∷ close_calls undone xs)
   undone_go_on began now leads b xs clears =
       let l = led steps old new fresh leads b.journal.spelled.journal.journal.spelled.paths in
-      let s : Sealed undone back0 own-undone (own-back 0) undone_plan plan_back0 undone_back0 steps old Fresh_ less_fresh (current_tree now) = record { dir = b.dir; journal = b.journal; only = b.only; is = b.is } in
+      let s : IsUndone steps old (current_tree now) = record { dir = b.dir; journal = b.journal; only = b.only; is = b.is } in
       leads_safely P old began now (call.Sync ∷ close_calls undone xs)
-      (safe_close undone back0 own-undone (own-back 0) undone_plan plan_back0 undone_back0 steps old Fresh_ less_fresh P (undone_gives steps old new fresh l) (old_gives steps old new fresh l) began now b.moments b.sound s xs clears)
-      (done_close undone back0 own-undone (own-back 0) undone_plan plan_back0 undone_back0 steps old Fresh_ less_fresh P (undone_gives steps old new fresh l) (old_gives steps old new fresh l) began now b.moments b.sound s xs clears)
+      (safe_close undone back0 own-undone (own-back 0) undone_plan plan_back0 undone_back0 steps old FreshIn less_fresh P (undone_gives steps old new fresh l) (old_gives steps old new fresh l) began now b.moments b.sound s xs clears)
+      (done_close undone back0 own-undone (own-back 0) undone_plan plan_back0 undone_back0 steps old FreshIn less_fresh P (undone_gives steps old new fresh l) (old_gives steps old new fresh l) began now b.moments b.sound s xs clears)

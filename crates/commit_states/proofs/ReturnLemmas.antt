@@ -14,7 +14,7 @@ use Rattle.tree_core.proofs.Runs.{IsSafe, closed_synced, safe_append, safe_all, 
 use Rattle.commit_states.proofs.BackLemmas.{Returning, back_at, Home, home, safe_turn, turned, safe_turn_some, some_turned}
 use Rattle.commit_states.proofs.CloseLemmas.{can_seal, sealed_clearing, Sealed, Clearing, Cleared, clear_all, Last, IsLast, closed_last, all_gone}
 use Rattle.commit_states.proofs.CommitLemmas.{edited_by-none}
-use Rattle.commit_states.proofs.SealLemmas.{back0, undone_plan, plan_back0, undone_back0, Fresh_, less_fresh, carry_fresh, fresh_others, undone_gives, old_gives, start_only}
+use Rattle.commit_states.proofs.SealLemmas.{IsUndone, IsLastUndone, LastUndone, back0, undone_plan, plan_back0, undone_back0, FreshIn, less_fresh, carry_fresh, fresh_others, undone_gives, old_gives, start_only}
 use Rattle.commit_states.specs.Calls.{turn_place, CleansItems, fresh_items, removals_of, last_of, turn_calls, revoke_calls, clearing_calls, home_calls, end_calls}
 use Rattle.commit_states.specs.Interrupted.{StandsAs, StandsAfter, IsInterrupted, back, forward}
 use Rattle.commit_steps.specs.Staging.{staging, staged, plan, undone, at_marker, back_marker}
@@ -47,13 +47,13 @@ module _ (steps : List Step) (old new : FileTree) (nodes : List Node) (leads : L
     h4 = then_all h3 (removals_of (fresh_items 0 fs) back0 ++ call.Sync ∷ [])
 
     can3 : CanDo (call.Rename (staged plan) (staged undone)) (current_tree h2)
-    can3 = can_seal undone back0 own-undone (own-back 0) undone_plan plan_back0 undone_back0 steps old Fresh_ less_fresh carry_fresh old new nodes leads undone_names 0 rest_start (start_only steps old new nodes leads tree absent) (current_tree h2) r.sound.tree r.stands
+    can3 = can_seal undone back0 own-undone (own-back 0) undone_plan plan_back0 undone_back0 steps old FreshIn less_fresh carry_fresh old new nodes leads undone_names 0 rest_start (start_only steps old new nodes leads tree absent) (current_tree h2) r.sound.tree r.stands
 
     abbrev u : FileTree
     u = renamed (current_tree h2) (staged plan) (staged undone)
 
-    clearing : Clearing undone back0 own-undone (own-back 0) undone_plan plan_back0 undone_back0 steps old Fresh_ less_fresh (start old nodes) u (fresh_items 0 fs)
-    clearing = sealed_clearing undone back0 own-undone (own-back 0) undone_plan plan_back0 undone_back0 steps old Fresh_ less_fresh carry_fresh old new nodes leads undone_names 0 rest_start (start_only steps old new nodes leads tree absent)
+    clearing : Clearing undone back0 own-undone (own-back 0) undone_plan plan_back0 undone_back0 steps old FreshIn less_fresh (start old nodes) u (fresh_items 0 fs)
+    clearing = sealed_clearing undone back0 own-undone (own-back 0) undone_plan plan_back0 undone_back0 steps old FreshIn less_fresh carry_fresh old new nodes leads undone_names 0 rest_start (start_only steps old new nodes leads tree absent)
         (current_tree h2) r.sound.tree r.stands (start old nodes) (fresh_items 0 fs) refl cleans
 
     safe3 : IsSafe o P h2 revoke_calls
@@ -62,14 +62,14 @@ module _ (steps : List Step) (old new : FileTree) (nodes : List Node) (leads : L
     sound3 : IsSound h3
     sound3 = sound_all h2 revoke_calls r.sound (safe_can o P h2 revoke_calls safe3)
 
-    cleared : Cleared undone back0 own-undone (own-back 0) undone_plan plan_back0 undone_back0 steps old Fresh_ less_fresh h3 (fresh_items 0 fs)
-    cleared = clear_all undone back0 own-undone (own-back 0) undone_plan plan_back0 undone_back0 steps old Fresh_ less_fresh (fresh_items 0 fs) h3 (start old nodes) (fresh_others steps old fs 0) clearing
+    cleared : Cleared undone back0 own-undone (own-back 0) undone_plan plan_back0 undone_back0 steps old FreshIn less_fresh h3 (fresh_items 0 fs)
+    cleared = clear_all undone back0 own-undone (own-back 0) undone_plan plan_back0 undone_back0 steps old FreshIn less_fresh (fresh_items 0 fs) h3 (start old nodes) (fresh_others steps old fs 0) clearing
 
-    pending3 : Pending h3 (Sealed undone back0 own-undone (own-back 0) undone_plan plan_back0 undone_back0 steps old Fresh_ less_fresh)
-    pending3 = pending-durable h3 (Sealed undone back0 own-undone (own-back 0) undone_plan plan_back0 undone_back0 steps old Fresh_ less_fresh) (durable-sync (Then h2 (call.Rename (staged plan) (staged undone)))) sound3 clearing.row
+    pending3 : Pending h3 (IsUndone steps old)
+    pending3 = pending-durable h3 (IsUndone steps old) (durable-sync (Then h2 (call.Rename (staged plan) (staged undone)))) sound3 clearing.row
 
     safe4 : IsSafe o P h3 (removals_of (fresh_items 0 fs) back0 ++ call.Sync ∷ [])
-    safe4 = closed_synced o P (Sealed undone back0 own-undone (own-back 0) undone_plan plan_back0 undone_back0 steps old Fresh_ less_fresh) h3 (removals_of (fresh_items 0 fs) back0) (undone_gives steps old new nodes leads) (safe_all o P h2 revoke_calls safe3) pending3 cleared.closed
+    safe4 = closed_synced o P (IsUndone steps old) h3 (removals_of (fresh_items 0 fs) back0) (undone_gives steps old new nodes leads) (safe_all o P h2 revoke_calls safe3) pending3 cleared.closed
 
     is_h4 : h4 ≡ Then (then_all h3 (removals_of (fresh_items 0 fs) back0)) call.Sync
     is_h4 = then_all-append h3 (removals_of (fresh_items 0 fs) back0) (call.Sync ∷ [])
@@ -77,14 +77,14 @@ module _ (steps : List Step) (old new : FileTree) (nodes : List Node) (leads : L
     sound4 : IsSound h4
     sound4 = sound_all h3 (removals_of (fresh_items 0 fs) back0 ++ call.Sync ∷ []) sound3 (safe_can o P h3 (removals_of (fresh_items 0 fs) back0 ++ call.Sync ∷ []) safe4)
 
-    last : Last undone back0 own-undone (own-back 0) undone_plan plan_back0 undone_back0 steps old Fresh_ less_fresh (current_tree h4)
-    last = subst (λ (h : History). Last undone back0 own-undone (own-back 0) undone_plan plan_back0 undone_back0 steps old Fresh_ less_fresh (current_tree h)) (sym is_h4) cleared.last
+    last : LastUndone steps old (current_tree h4)
+    last = subst (λ (h : History). LastUndone steps old (current_tree h)) (sym is_h4) cleared.last
 
     safe5 : IsSafe o P h4 (last_of undone ++ call.Sync ∷ [])
-    safe5 = closed_synced o P (IsLast undone back0 own-undone (own-back 0) undone_plan plan_back0 undone_back0 steps old Fresh_ less_fresh) h4 (last_of undone) (old_gives steps old new nodes leads)
+    safe5 = closed_synced o P (IsLastUndone steps old) h4 (last_of undone) (old_gives steps old new nodes leads)
         (safe_all o P h3 (removals_of (fresh_items 0 fs) back0 ++ call.Sync ∷ []) safe4)
-        (pending-durable h4 (IsLast undone back0 own-undone (own-back 0) undone_plan plan_back0 undone_back0 steps old Fresh_ less_fresh) (subst IsDurable (sym is_h4) (durable-sync (then_all h3 (removals_of (fresh_items 0 fs) back0)))) sound4 (inl last))
-        (closed_last undone back0 own-undone (own-back 0) undone_plan plan_back0 undone_back0 steps old Fresh_ less_fresh h4 last sound4)
+        (pending-durable h4 (IsLastUndone steps old) (subst IsDurable (sym is_h4) (durable-sync (then_all h3 (removals_of (fresh_items 0 fs) back0)))) sound4 (inl last))
+        (closed_last undone back0 own-undone (own-back 0) undone_plan plan_back0 undone_back0 steps old FreshIn less_fresh h4 last sound4)
 
     pub safe_end : IsSafe o P h2 (revoke_calls ++ clearing_calls fs)
     safe_end = safe_append o P h2 revoke_calls (clearing_calls fs) safe3
@@ -95,7 +95,7 @@ module _ (steps : List Step) (old new : FileTree) (nodes : List Node) (leads : L
 
     pub old_again : (current_tree (then_all h2 (revoke_calls ++ clearing_calls fs)) ≡ old) × IsDurable (then_all h2 (revoke_calls ++ clearing_calls fs))
     old_again = subst (λ (h : History). (current_tree h ≡ old) × IsDurable h) (sym is_end)
-        ((all_gone undone back0 own-undone (own-back 0) undone_plan plan_back0 undone_back0 steps old Fresh_ less_fresh h4 last sound4).1, durable-sync (then_all h4 (last_of undone)))
+        ((all_gone undone back0 own-undone (own-back 0) undone_plan plan_back0 undone_back0 steps old FreshIn less_fresh h4 last sound4).1, durable-sync (then_all h4 (last_of undone)))
 
   abbrev place : ℕ → FileTree
   place k = after (take k steps) (start old nodes)

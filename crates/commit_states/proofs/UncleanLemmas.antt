@@ -10,7 +10,7 @@ use Rattle.tree_core.proofs.Runs.{IsSafe, safe_failed}
 use Rattle.commit_states.proofs.CloseLemmas.{Sealed, IsLast}
 use Rattle.commit_states.proofs.FinishLemmas.{safe_finish_as}
 use Rattle.commit_states.proofs.LoopLemmas.{Ready, forward_at}
-use Rattle.commit_states.proofs.SealLemmas.{mk, own, sealed_plan, plan_mk, sealed_mk, less_held}
+use Rattle.commit_states.proofs.SealLemmas.{IsSealed, IsLastSealed, last_marker, own-last_marker, sealed_plan, plan-last_marker, sealed-last_marker, less_held}
 use Rattle.commit_states.specs.Calls.{seal_calls, Cleans, cleaning_calls}
 use Rattle.commit_states.specs.Interrupted.{StandsAfter, nothing_staged, no_journal, behind_seal, GoesForward}
 use Rattle.commit_states.specs.declared.held.Held.{Held}
@@ -30,10 +30,10 @@ module _ (steps : List Step) (old new : FileTree) (nodes : List Node) (leads : L
   at_plan : (t : FileTree) → StandsAfter steps old nodes (at_marker (length steps)) (length steps) t → F t
   at_plan t s = (forward_at steps old new nodes leads (length steps) t (omega arith) s, refl)
 
-  at_sealed : (t : FileTree) → Sealed sealed (mk steps) own-sealed (own steps) sealed_plan (plan_mk steps) (sealed_mk steps) steps new IsHeld less_held t → F t
+  at_sealed : (t : FileTree) → IsSealed steps new t → F t
   at_sealed t s = (behind_seal leads.leads s.dir s.journal s.only s.is, refl)
 
-  at_last : (t : FileTree) → IsLast sealed (mk steps) own-sealed (own steps) sealed_plan (plan_mk steps) (sealed_mk steps) steps new IsHeld less_held t → F t
+  at_last : (t : FileTree) → IsLastSealed steps new t → F t
   at_last t (inl l) = (behind_seal leads.leads l.dir l.journal (λ name node e. inl (l.only name node e)) l.is, refl)
   at_last t (inr (inl e)) = (no_journal e.dir (λ name node is. absurd (e.only name node is)) (inr e.is), e.is)
   at_last t (inr (inr gone)) = (nothing_staged gone.0 (inr gone.1), gone.1)
