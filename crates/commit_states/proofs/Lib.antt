@@ -16,3 +16,4 @@ pub mod UnstageLemmas
 pub mod UncleanLemmas
 pub mod LawLemmas
 pub mod PhaseLemmas
+pub mod ExampleLemmas

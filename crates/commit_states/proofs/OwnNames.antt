@@ -35,7 +35,7 @@ ascii-cons : (x : ℕ) (xs : List ℕ) → x < 128 → IsAscii xs → IsAscii (x
 ascii-cons x xs low others zero = low
 ascii-cons x xs low others (suc i) = others i
 
-ascii_by : (xs : List ℕ) → list_all is_low xs ≡ true → IsAscii xs
+pub ascii_by : (xs : List ℕ) → list_all is_low xs ≡ true → IsAscii xs
 ascii_by [] e = IsAscii-nil
 ascii_by (x ∷ xs) e = ascii-cons x xs (low_below x (and_first (is_low x) (list_all is_low xs) e)) (ascii_by xs (and_second (is_low x) (list_all is_low xs) e))
 

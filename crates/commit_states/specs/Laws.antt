@@ -1,5 +1,5 @@
 -- Lists of calls that are safe and where they lead, as statements.
-use Rattle.std.specs.Prelude.{◌≡◌, ◌⊎◌, ℕ, ◌+◌, ◌≤◌, List, [], ◌∷◌, ◌++◌, length, take}
+use Rattle.std.specs.Prelude.{◌≡◌, ◌⊎◌, ℕ, ◌+◌, ◌≤◌, List, [], ◌∷◌, ◌++◌, length, take, codes}
 use Rattle.tree_core.specs.declared.changes.Fresh.{Fresh}
 use Rattle.tree_core.specs.declared.node.Node.{Node}
 use Rattle.tree_core.specs.declared.node.Change.{Change}
@@ -9,6 +9,9 @@ use Rattle.tree_core.specs.FileTree.{FileTree, IsTree, IsAbsent}
 use Rattle.tree_core.specs.History.{History, Then, IsSound, current_tree, next_number, IsCrashState, IsDurable, LeavesOnly}
 use Rattle.tree_core.specs.Runs.{then_all, CanAll, FailedIn}
 use Rattle.commit_steps.specs.declared.step.Step.{Step}
+use Rattle.commit_steps.specs.declared.step.Step.TheVariants.{MakeDir}
+use Rattle.commit_journal.specs.declared.version.Version.TheVariants.{Two}
+use Rattle.commit_journal.specs.Spelling.{journal_text}
 use Rattle.commit_steps.specs.Staging.{staging, sealed, undone}
 use Rattle.step_trees.specs.Steps.{after}
 use Rattle.step_trees.specs.Groups.{groups, to_next_cut, from_last_cut, ComesBySome, left_of, taken_of}
@@ -16,7 +19,7 @@ use Rattle.step_trees.specs.Leads.{start, Leads}
 use Rattle.commit_states.specs.declared.held.Held.{Held}
 use Rattle.commit_states.specs.Interrupted.{StandsAs, IsInterrupted, GoesForward}
 use Rattle.commit_states.specs.Calls.{fresh_nodes, commit_calls, staging_calls, calls_from, resume_calls, seal_calls, cleaning_calls, Cleans, turn_place, turn_calls, home_calls, end_calls, fresh_items, CleansItems, unstage_calls, Unstages, Items, ClearsItems, close_calls}
-use Rattle.commit_states.specs.Fits.{Fits}
+use Rattle.commit_states.specs.Fits.{Fits, edited_by}
 use Rattle.commit_states.specs.Stops.{Unplanned, Halted, Turned, TurnsRound, BehindSeal, AllUndone}
 
 -- These calls, from now on, can be done one after another. A crash at any moment since a run began leaves a tree that has P, also
@@ -36,6 +39,12 @@ CommitsAreSafe =
     (steps : List Step) (fs : List Fresh) (journal : List ℕ) (hs : List Held) (new : FileTree) (o : History) → IsDurable o → IsSound o
     → Fits steps fs journal hs new (current_tree o) (next_number o)
     → LeadsSafely (IsInterrupted steps (current_tree o) new (fresh_nodes (current_tree o) (next_number o + 1) fs)) new o o (commit_calls steps fs journal hs)
+
+-- What it asks for can be met: by one that makes the directory `d`, in any tree that has nothing there.
+abbrev pub CommitsCanFit : Type 0
+CommitsCanFit =
+    (old : FileTree) (next : ℕ) → IsTree old → IsAbsent old staging → IsAbsent old (codes "d" ∷ [])
+    → Fits (MakeDir (codes "d" ∷ []) ∷ []) [] (journal_text Two (MakeDir (codes "d" ∷ []) ∷ [])) [] (edited_by (MakeDir (codes "d" ∷ []) ∷ []) old []) old next
 
 -- the history of a commit up to its first step, and up to its seal
 abbrev pub staged_history : List Fresh → List ℕ → History → History

@@ -1,6 +1,7 @@
 // Laws over the definitions alone.
 ghost use Rattle.commit_states.specs.Laws.{
   CommitsAreSafe,
+  CommitsCanFit,
   FailedSealsGoForward,
   FailedStagingsStop,
   FailedStepsHalt,
@@ -22,9 +23,10 @@ pub fn rows_exclude_one_another()
 
 /// A commit whose steps, fresh entries, journal and held entries fit the tree, which is durable: its calls can be done one after
 /// another; a crash at any moment leaves an interrupted tree, also where a call fails and is the last; behind them the edited tree
-/// stands, and nothing is pending.
+/// stands, and nothing is pending. What it asks for can be met.
 pub fn commits_are_safe()
-    ensures { CommitsAreSafe }
+    ensures safe { CommitsAreSafe }
+    ensures can_fit { CommitsCanFit }
 {}
 
 /// Where a call of a commit failed. While the staging directory is filled: no journal has its name yet, in the tree that reads and in
