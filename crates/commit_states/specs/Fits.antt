@@ -9,7 +9,7 @@ use Rattle.commit_journal.specs.declared.version.Version.TheVariants.{Two}
 use Rattle.commit_journal.specs.Grammar.{IsJournalOf}
 use Rattle.step_trees.specs.Entries.{rest}
 use Rattle.step_trees.specs.Steps.{after}
-use Rattle.step_trees.specs.Leads.{start, Leads}
+use Rattle.step_trees.specs.Leads.{start, at_place, Leads}
 use Rattle.commit_states.specs.declared.held.Held.{Held}
 use Rattle.commit_states.specs.Interrupted.{max_journal_bytes}
 use Rattle.commit_states.specs.Calls.{fresh_nodes, AreLawfulFresh, Cleans}
@@ -28,7 +28,7 @@ pub record Fits (steps : List Step) (fs : List Fresh) (journal : List ℕ) (hs :
   pub journal_is : IsWritten steps journal
   -- `at-0` takes the first number
   pub leads : Leads steps old new (fresh_nodes old (next + 1) fs)
-  pub cleans : Cleans hs (after (take (length steps) steps) (start old (fresh_nodes old (next + 1) fs)))
+  pub cleans : Cleans hs (at_place steps old (fresh_nodes old (next + 1) fs) (length steps))
 
 -- the tree that the steps lead to
 abbrev pub edited_by : List Step → FileTree → List Node → FileTree

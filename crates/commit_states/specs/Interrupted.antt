@@ -10,7 +10,7 @@ use Rattle.commit_journal.specs.Grammar.{IsJournal}
 use Rattle.step_trees.specs.Entries.{without, rest, IsFresh, IsHeld, HoldsOnly}
 use Rattle.step_trees.specs.Steps.{after}
 use Rattle.step_trees.specs.Groups.{groups, to_next_cut, from_last_cut, ComesBySome}
-use Rattle.step_trees.specs.Leads.{start, Leads}
+use Rattle.step_trees.specs.Leads.{start, at_place, Leads}
 
 -- ---- journals and markers
 
@@ -52,7 +52,7 @@ pub record StandsAs (steps : List Step) (marker : List ℕ) (u t : FileTree) : T
 
 -- u is the tree after j steps
 abbrev pub StandsAfter : List Step → FileTree → List Node → List ℕ → ℕ → FileTree → Type 0
-StandsAfter steps old fresh marker j t = StandsAs steps marker (after (take j steps) (start old fresh)) t
+StandsAfter steps old fresh marker j t = StandsAs steps marker (at_place steps old fresh j) t
 
 -- ---- the table
 
@@ -67,12 +67,12 @@ pub data IsInterrupted (steps : List Step) (old new : FileTree) (fresh : List No
       → (rest t ≡ old) ⊎ (rest t ≡ new) → IsInterrupted steps old new fresh t
   -- `plan` and `at-m`: without them, the tree after m steps with any of those done that lie between m and the next cut behind it
   forward : Leads steps old new fresh → (m : ℕ) (u : FileTree) → m ≤ length steps
-      → ComesBySome (to_next_cut m (groups steps)) (after (take m steps) (start old fresh)) u
+      → ComesBySome (to_next_cut m (groups steps)) (at_place steps old fresh m) u
       → StandsAs steps (at_marker m) u t → IsInterrupted steps old new fresh t
   -- `plan` and `back-m`: without them, the tree after k steps with any of those done that lie between k and m, where k is the last
   -- cut before m
   back : Leads steps old new fresh → (k m : ℕ) (u : FileTree) → m ≤ length steps → m ≡ k + length (from_last_cut m (groups steps))
-      → ComesBySome (from_last_cut m (groups steps)) (after (take k steps) (start old fresh)) u
+      → ComesBySome (from_last_cut m (groups steps)) (at_place steps old fresh k) u
       → StandsAs steps (back_marker m) u t → IsInterrupted steps old new fresh t
   -- `done`: other names are among `hN` and `at-n`; the rest is new
   behind_seal : Leads steps old new fresh → IsDir t staging → JournalAt t sealed steps

@@ -15,12 +15,12 @@ use Rattle.commit_journal.specs.Spelling.{journal_text}
 use Rattle.commit_steps.specs.Staging.{staging, sealed, undone}
 use Rattle.step_trees.specs.Steps.{after}
 use Rattle.step_trees.specs.Groups.{groups, to_next_cut, from_last_cut, ComesBySome, left_of, taken_of}
-use Rattle.step_trees.specs.Leads.{start, Leads}
+use Rattle.step_trees.specs.Leads.{start, at_place, Leads}
 use Rattle.commit_states.specs.declared.held.Held.{Held}
 use Rattle.commit_states.specs.Interrupted.{StandsAs, IsInterrupted, GoesForward}
 use Rattle.commit_states.specs.Calls.{fresh_nodes, commit_calls, staging_calls, calls_from, resume_calls, seal_calls, cleaning_calls, Cleans, turn_place, turn_calls, home_calls, end_calls, fresh_items, CleansItems, unstage_calls, Unstages, Items, ClearsItems, close_calls}
 use Rattle.commit_states.specs.Fits.{Fits, edited_by}
-use Rattle.commit_states.specs.Stops.{Unplanned, Halted, Turned, TurnsRound, BehindSeal, AllUndone}
+use Rattle.commit_states.specs.Stops.{Unplanned, Halted, Turned, TurnsRound, still_left, already_done, to_undo, to_undo_behind, BehindSeal, AllUndone}
 
 -- These calls, from now on, can be done one after another. A crash at any moment since a run began leaves a tree that has P, also
 -- where one of them fails and is the last. Behind them all the target stands, and nothing is pending.
@@ -99,9 +99,9 @@ UnstagedGoBack =
 abbrev pub HaltsGoForward : Type 0
 HaltsGoForward =
     (steps : List Step) (old new : FileTree) (fresh : List Node) (hs : List Held) (began now : History) → Leads steps old new fresh
-    → Cleans hs (after (take (length steps) steps) (start old fresh)) → (h : Halted steps old new fresh began now)
+    → Cleans hs (at_place steps old fresh (length steps)) → (h : Halted steps old new fresh began now)
     → LeadsSafely (IsInterrupted steps old new fresh) new began now
-    (call.Sync ∷ (resume_calls steps h.m (left_of (to_next_cut h.m (groups steps)) (after (take h.m steps) (start old fresh)) h.u h.comes) ++ (seal_calls ++ cleaning_calls hs (length steps))))
+    (call.Sync ∷ (resume_calls steps h.m (still_left h) ++ (seal_calls ++ cleaning_calls hs (length steps))))
 
 -- ---- back
 
@@ -111,16 +111,16 @@ TurnedGoBack =
     (steps : List Step) (old new : FileTree) (fresh : List Node) (fs : List Fresh) (began now : History) → Leads steps old new fresh
     → IsTree old → IsAbsent old staging → CleansItems (fresh_items 0 fs) (start old fresh) → (b : Turned steps old new fresh began now)
     → LeadsSafely (IsInterrupted steps old new fresh) old began now
-    (call.Sync ∷ (home_calls steps b.m (taken_of (from_last_cut b.m (groups steps)) (after (take b.k steps) (start old fresh)) b.u b.comes) ++ end_calls fs))
+    (call.Sync ∷ (home_calls steps b.m (to_undo b) ++ end_calls fs))
 
 -- These are undone, and so on back.
 abbrev pub HaltsGoBack : Type 0
 HaltsGoBack =
     (steps : List Step) (old new : FileTree) (fresh : List Node) (fs : List Fresh) (began now : History) → Leads steps old new fresh
     → IsTree old → IsAbsent old staging → CleansItems (fresh_items 0 fs) (start old fresh) → (h : Halted steps old new fresh began now)
-    → (t : TurnsRound steps old fresh h.m h.u (taken_of (to_next_cut h.m (groups steps)) (after (take h.m steps) (start old fresh)) h.u h.comes))
+    → (t : TurnsRound steps old fresh h.m h.u (already_done h))
     × LeadsSafely (IsInterrupted steps old new fresh) old began now
-    (call.Sync ∷ (turn_calls h.m t.j ++ (home_calls steps t.j (taken_of (from_last_cut t.j (groups steps)) (after (take t.k steps) (start old fresh)) h.u t.comes) ++ end_calls fs)))
+    (call.Sync ∷ (turn_calls h.m t.j ++ (home_calls steps t.j (to_undo_behind t) ++ end_calls fs)))
 
 -- ---- from `done` and `undone`
 

@@ -7,8 +7,8 @@ use Rattle.commit_steps.specs.declared.step.Step.{Step}
 use Rattle.commit_steps.specs.Staging.{staging, sealed, undone, new_journal, at_marker, back_marker}
 use Rattle.step_trees.specs.Entries.{rest, IsHeld, IsFresh, HoldsOnly}
 use Rattle.step_trees.specs.Steps.{after}
-use Rattle.step_trees.specs.Groups.{groups, to_next_cut, from_last_cut, ComesBySome}
-use Rattle.step_trees.specs.Leads.{start}
+use Rattle.step_trees.specs.Groups.{groups, to_next_cut, from_last_cut, ComesBySome, left_of, taken_of}
+use Rattle.step_trees.specs.Leads.{start, at_place}
 use Rattle.commit_states.specs.Interrupted.{JournalAt, IsOne, StandsAs, IsInterrupted}
 use Rattle.commit_states.specs.Calls.{turn_place}
 
@@ -44,10 +44,17 @@ pub record Halted (steps : List Step) (old new : FileTree) (fresh : List Node) (
   pub m : ℕ
   pub u : FileTree
   pub le : m ≤ length steps
-  pub comes : ComesBySome (to_next_cut m (groups steps)) (after (take m steps) (start old fresh)) u
+  pub comes : ComesBySome (to_next_cut m (groups steps)) (at_place steps old fresh m) u
   pub stands : StandsAs steps (at_marker m) u (current_tree now)
   pub moments : LeavesOnly began now (IsInterrupted steps old new fresh)
   pub sound : IsSound now
+
+-- those of these steps that are still to be done, and those that were
+abbrev pub still_left : {steps : List Step} {old new : FileTree} {fresh : List Node} {began now : History} → Halted steps old new fresh began now → List Step
+still_left {steps = steps} {old = old} {fresh = fresh} h = left_of (to_next_cut h.m (groups steps)) (at_place steps old fresh h.m) h.u h.comes
+
+abbrev pub already_done : {steps : List Step} {old new : FileTree} {fresh : List Node} {began now : History} → Halted steps old new fresh began now → List Step
+already_done {steps = steps} {old = old} {fresh = fresh} h = taken_of (to_next_cut h.m (groups steps)) (at_place steps old fresh h.m) h.u h.comes
 
 -- `plan` and `back-m` stand, and any of the steps from the last cut, k, to m are done.
 pub record Turned (steps : List Step) (old new : FileTree) (fresh : List Node) (began now : History) : Type 0 where
@@ -56,10 +63,14 @@ pub record Turned (steps : List Step) (old new : FileTree) (fresh : List Node) (
   pub u : FileTree
   pub le : m ≤ length steps
   pub cut : m ≡ k + length (from_last_cut m (groups steps))
-  pub comes : ComesBySome (from_last_cut m (groups steps)) (after (take k steps) (start old fresh)) u
+  pub comes : ComesBySome (from_last_cut m (groups steps)) (at_place steps old fresh k) u
   pub stands : StandsAs steps (back_marker m) u (current_tree now)
   pub moments : LeavesOnly began now (IsInterrupted steps old new fresh)
   pub sound : IsSound now
+
+-- those of these steps that are to be undone
+abbrev pub to_undo : {steps : List Step} {old new : FileTree} {fresh : List Node} {began now : History} → Turned steps old new fresh began now → List Step
+to_undo {steps = steps} {old = old} {fresh = fresh} b = taken_of (from_last_cut b.m (groups steps)) (at_place steps old fresh b.k) b.u b.comes
 
 -- From `at-m` the marker turns round, at m if none of the steps from m to the next cut was done, and else at that cut. From the last
 -- cut before that place, k, to it some steps were done.
@@ -68,7 +79,10 @@ pub record TurnsRound (steps : List Step) (old : FileTree) (fresh : List Node) (
   pub j_is : j ≡ turn_place steps m taken
   pub k : ℕ
   pub cut : j ≡ k + length (from_last_cut j (groups steps))
-  pub comes : ComesBySome (from_last_cut j (groups steps)) (after (take k steps) (start old fresh)) u
+  pub comes : ComesBySome (from_last_cut j (groups steps)) (at_place steps old fresh k) u
+
+abbrev pub to_undo_behind : {steps : List Step} {old : FileTree} {fresh : List Node} {m : ℕ} {u : FileTree} {taken : List Step} → TurnsRound steps old fresh m u taken → List Step
+to_undo_behind {steps = steps} {old = old} {fresh = fresh} {u = u} t = taken_of (from_last_cut t.j (groups steps)) (at_place steps old fresh t.k) u t.comes
 
 -- `done` stands: other names are among `hN` and `at-n`, and the rest is the edited tree.
 pub record BehindSeal (steps : List Step) (old new : FileTree) (fresh : List Node) (began now : History) : Type 0 where

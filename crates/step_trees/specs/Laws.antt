@@ -1,5 +1,5 @@
 -- What holds of steps, of the groups that they are cut into, and of the trees that they lead through, as statements.
-use Rattle.std.specs.Prelude.{◌≡◌, ◌↔◌, ℕ, ◌<◌, ◌≤◌, List, length, take, get_or}
+use Rattle.std.specs.Prelude.{◌≡◌, ◌↔◌, ℕ, ◌<◌, ◌≤◌, List, length, get_or}
 use Rattle.std.specs.List.{AllByRecursion}
 use Rattle.tree_core.specs.declared.node.Node.{Node}
 use Rattle.tree_core.specs.FileTree.{FileTree, IsTree, CanDo, done}
@@ -8,7 +8,7 @@ use Rattle.commit_steps.specs.Steps.{HasPaths, IsLawfulStep}
 use Rattle.step_trees.specs.Apart.{AreApart}
 use Rattle.step_trees.specs.Steps.{IsStep, call_of, undo_of, step_done, after, IsBefore, IsAfter}
 use Rattle.step_trees.specs.Groups.{groups, joined, AreGroups, to_next_cut, ComesBySome, left_of, taken_of}
-use Rattle.step_trees.specs.Leads.{start, HoldsEntries, Ends, Leads, SetOther}
+use Rattle.step_trees.specs.Leads.{start, at_place, HoldsEntries, Ends, Leads, SetOther}
 
 -- ---- one step
 
@@ -48,12 +48,12 @@ GroupsAreCut = (steps : List Step) → (joined (groups steps) ≡ steps) × AreG
 -- the step at place k is before in the tree with the ones before it done
 pub record GoesOn (steps : List Step) (old : FileTree) (fresh : List Node) (k : ℕ) (step : Step) : Type 0 where
   pub lawful : IsLawfulStep step
-  pub before : IsBefore step (after (take k steps) (start old fresh))
+  pub before : IsBefore step (at_place steps old fresh k)
 
 -- Place by place: each step goes on, each tree on the way holds only entries, and the last one is the edited tree.
 pub record LeadsByPlaces (steps : List Step) (old new : FileTree) (fresh : List Node) : Type 0 where
   pub each : (k : ℕ) (step : Step) → k < length steps → step ≡ get_or steps k step → GoesOn steps old fresh k step
-  pub holds : (k : ℕ) → HoldsEntries (after (take k steps) (start old fresh))
+  pub holds : (k : ℕ) → HoldsEntries (at_place steps old fresh k)
   pub ends : Ends new (after steps (start old fresh))
 
 abbrev pub PlacesAreLed : Type 0
@@ -69,5 +69,5 @@ pub record LooksTell (steps : List Step) (t c : FileTree) (some : ComesBySome st
 abbrev pub LooksTellWhichWereDone : Type 0
 LooksTellWhichWereDone =
     (steps : List Step) (old new : FileTree) (fresh : List Node) → Leads steps old new fresh → AllByRecursion HasPaths steps → (m : ℕ) → m ≤ length steps
-    → (c : FileTree) (some : ComesBySome (to_next_cut m (groups steps)) (after (take m steps) (start old fresh)) c)
-    → LooksTell (to_next_cut m (groups steps)) (after (take m steps) (start old fresh)) c some
+    → (c : FileTree) (some : ComesBySome (to_next_cut m (groups steps)) (at_place steps old fresh m) c)
+    → LooksTell (to_next_cut m (groups steps)) (at_place steps old fresh m) c some

@@ -1,5 +1,5 @@
 -- Steps that lead from an old tree to an edited one.
-use Rattle.std.specs.Prelude.{◌≡◌, ◌⊎◌, ℕ, ◌+◌, List, [], ◌∷◌, Option, Some, None}
+use Rattle.std.specs.Prelude.{◌≡◌, ◌⊎◌, ℕ, ◌+◌, List, [], ◌∷◌, take, Option, Some, None}
 use Rattle.std.specs.FinMap.{get, insert}
 use Rattle.tree_core.specs.declared.node.Node.{Node}
 use Rattle.tree_core.specs.declared.node.Node.TheVariants.{Dir, Link, File}
@@ -20,6 +20,10 @@ with_fresh n (node ∷ nodes) t = with_fresh (n + 1) nodes (insert t (staged (fr
 -- the old tree with a staging directory that holds the fresh entries, from `f0` on, and nothing else
 abbrev pub start : FileTree → List Node → FileTree
 start old fresh = with_fresh 0 fresh (insert old staging (Dir 0o700))
+
+-- the tree with the first k steps done
+abbrev pub at_place : List Step → FileTree → List Node → ℕ → FileTree
+at_place steps old fresh k = after (take k steps) (start old fresh)
 
 -- it is a tree whose staging directory stands, and holds only entries of their kinds
 pub record HoldsEntries (t : FileTree) : Type 0 where
