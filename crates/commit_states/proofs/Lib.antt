@@ -17,3 +17,4 @@ pub mod UncleanLemmas
 pub mod LawLemmas
 pub mod PhaseLemmas
 pub mod ExampleLemmas
+pub mod ReadLemmas

@@ -14,6 +14,13 @@ ghost use Rattle.commit_states.specs.Laws.{
   UnstagedGoBack,
 };
 ghost use Rattle.commit_states.specs.Phases.{JournalsTell, RowsExclude};
+ghost use Rattle.commit_states.specs.Reads.{
+  EarlyNamesSuffice,
+  FreshNamesSuffice,
+  HeldNamesSuffice,
+  SealedNamesSuffice,
+  UndoneNamesSuffice,
+};
 
 /// What stands tells the row of the table and the place of the marker, and where a journal stands the steps, whatever the commit was.
 pub fn rows_exclude_one_another()
@@ -69,4 +76,14 @@ pub fn turned_go_back()
 pub fn closed_ones_are_cleared()
     ensures sealed { SealsGoForward }
     ensures undone { UndoneGoBack }
+{}
+
+/// The names that are read in the staging directory of an interrupted tree, each with whether it is a directory, can be removed one
+/// after another, and then all is cleared but the journal, if one stands.
+pub fn names_suffice()
+    ensures early { EarlyNamesSuffice }
+    ensures sealed { SealedNamesSuffice }
+    ensures undone { UndoneNamesSuffice }
+    ensures held { HeldNamesSuffice }
+    ensures fresh { FreshNamesSuffice }
 {}
