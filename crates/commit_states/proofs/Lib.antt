@@ -18,3 +18,4 @@ pub mod LawLemmas
 pub mod PhaseLemmas
 pub mod ExampleLemmas
 pub mod ReadLemmas
+pub mod FreshLemmas

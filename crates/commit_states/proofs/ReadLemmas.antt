@@ -18,11 +18,11 @@ use Rattle.commit_states.specs.Reads.{IsNamed, AreOnce, AreRead, files}
 
 -- ---- one after another
 
-abbrev IsItem : FileTree → (List ℕ → Type 0) → List ℕ × Bool → Type 0
+abbrev pub IsItem : FileTree → (List ℕ → Type 0) → List ℕ × Bool → Type 0
 IsItem t Left x = (Left x.0 → ⊥) × Stands t (staged x.0) × (is_dir_node (get t (staged x.0)) ≡ x.1)
 
 -- the directories that are to be removed are empty
-abbrev AreEmpty : FileTree → (List ℕ → Type 0) → Type 0
+abbrev pub AreEmpty : FileTree → (List ℕ → Type 0) → Type 0
 AreEmpty t Left = (name : List ℕ) → IsDir t (staged name) → (Left name → ⊥) → IsEmptyAt t (staged name)
 
 can_remove : (t : FileTree) (Left : List ℕ → Type 0) → AreEmpty t Left → (name : List ℕ) (b : Bool) → (Left name → ⊥) → Stands t (staged name) → is_dir_node (get t (staged name)) ≡ b → CanDo (removal_by b (staged name)) t
@@ -76,7 +76,7 @@ clears journal (x ∷ xs) t empty r = (
   clears journal xs (remove t (staged x.0)) (empty_less t (λ name. name ≡ journal) x.0 empty) (read_less t (λ name. name ≡ journal) x xs r),
 )
 
-cleans : (xs : Items) (t : FileTree) → AreEmpty t (λ name. ⊥) → AreRead t (λ name. ⊥) xs → CleansItems xs t
+pub cleans : (xs : Items) (t : FileTree) → AreEmpty t (λ name. ⊥) → AreRead t (λ name. ⊥) xs → CleansItems xs t
 cleans [] t empty r = λ name node e. ⊎_elim (λ nothing. nothing) (λ nothing. nothing) (r.all name (ap is_some e))
 cleans (x ∷ xs) t empty r = (
   can_remove t (λ name. ⊥) empty x.0 x.1 ((r.each).0).0 ((r.each).0).1 ((r.each).0).2,

@@ -1,13 +1,15 @@
 -- The names that are read in the staging directory are enough to clear it.
-use Rattle.std.specs.Prelude.{◌≡◌, ◌⊎◌, ℕ, Bool, false, List, [], ◌∷◌, length}
+use Rattle.std.specs.Prelude.{◌≡◌, ◌⊎◌, ℕ, ◌≤◌, ◌^◌, Bool, false, List, [], ◌∷◌, length}
 use Rattle.std.specs.List.{AllByRecursion}
 use Rattle.std.specs.FinMap.{get}
-use Rattle.tree_core.specs.FileTree.{FileTree, Stands, IsDir, is_dir_node}
+use Rattle.tree_core.specs.declared.changes.Fresh.{Fresh}
+use Rattle.tree_core.specs.FileTree.{FileTree, IsTree, IsAbsent, Stands, IsDir, is_dir_node}
 use Rattle.commit_steps.specs.Staging.{staging, staged, sealed, undone, at_marker, back_marker}
 use Rattle.step_trees.specs.Entries.{IsHeld, IsFresh, HoldsOnly}
+use Rattle.step_trees.specs.Leads.{start}
 use Rattle.commit_states.specs.declared.held.Held.{Held}
 use Rattle.commit_states.specs.Interrupted.{IsOne}
-use Rattle.commit_states.specs.Calls.{Items, held_items, Cleans, CleansItems, ClearsItems, Unstages}
+use Rattle.commit_states.specs.Calls.{fresh_nodes, AreLawfulFresh, fresh_items, Items, held_items, Cleans, CleansItems, ClearsItems, Unstages}
 use Rattle.commit_states.specs.Stops.{IsEarly}
 
 -- it is the name of one of these
@@ -52,3 +54,8 @@ HeldNamesSuffice = (t : FileTree) → HoldsOnly t (IsHeld t) → (hs : List Held
 
 abbrev pub FreshNamesSuffice : Type 0
 FreshNamesSuffice = (t : FileTree) → HoldsOnly t IsFresh → (xs : Items) → AreRead t (λ name. ⊥) xs → CleansItems xs t
+
+-- So a way back can remove the fresh entries of a commit.
+abbrev pub FreshEntriesSuffice : Type 0
+FreshEntriesSuffice = (old : FileTree) (fs : List Fresh) (next : ℕ) → IsTree old → IsAbsent old staging → AreLawfulFresh old fs → length fs ≤ 2 ^ 32
+    → CleansItems (fresh_items 0 fs) (start old (fresh_nodes old next fs))

@@ -16,6 +16,7 @@ ghost use Rattle.commit_states.specs.Laws.{
 ghost use Rattle.commit_states.specs.Phases.{JournalsTell, RowsExclude};
 ghost use Rattle.commit_states.specs.Reads.{
   EarlyNamesSuffice,
+  FreshEntriesSuffice,
   FreshNamesSuffice,
   HeldNamesSuffice,
   SealedNamesSuffice,
@@ -79,11 +80,12 @@ pub fn closed_ones_are_cleared()
 {}
 
 /// The names that are read in the staging directory of an interrupted tree, each with whether it is a directory, can be removed one
-/// after another, and then all is cleared but the journal, if one stands.
+/// after another, and then all is cleared but the journal, if one stands. So can the fresh entries of a commit in its first tree.
 pub fn names_suffice()
     ensures early { EarlyNamesSuffice }
     ensures sealed { SealedNamesSuffice }
     ensures undone { UndoneNamesSuffice }
     ensures held { HeldNamesSuffice }
     ensures fresh { FreshNamesSuffice }
+    ensures start { FreshEntriesSuffice }
 {}

@@ -1,4 +1,5 @@
 use Rattle.commit_states.proofs.ReadLemmas.{early_suffice, sealed_suffice, undone_suffice, held_suffice, fresh_suffice}
+use Rattle.commit_states.proofs.FreshLemmas.{fresh_entries}
 use Rattle.commit_states.proofs.laws.names_suffice.Goals as goal
 
 pub returns-clause-early : goal.returns-clause-early
@@ -15,3 +16,6 @@ returns-clause-held c = held_suffice
 
 pub returns-clause-fresh : goal.returns-clause-fresh
 returns-clause-fresh c = fresh_suffice
+
+pub returns-clause-start : goal.returns-clause-start
+returns-clause-start c = fresh_entries
