@@ -1,19 +1,19 @@
 -- The fresh entries in the first tree of a commit.
-use Rattle.std.proofs.Common.{◌≡◌, ◌≢◌, ◌⊎◌, inl, inr, ⊎_elim, ℕ, ◌+◌, ◌≤◌, ◌<◌, ◌^◌, Bool, true, false, List, [], ◌∷◌, ◌++◌, length, refl, sym, ◌∙◌, ap, subst, arith, Option, Some, None, is_some, IsTrue}
+use Rattle.std.proofs.Common.{◌≡◌, ◌≢◌, ◌⊎◌, inl, inr, ⊎_elim, ℕ, ◌+◌, ◌≤◌, ◌<◌, ◌^◌, true, false, List, [], ◌∷◌, length, refl, sym, ◌∙◌, ap, arith, Option, Some, None, is_some, IsTrue}
 use Rattle.std.specs.List.{AllByRecursion}
 use Rattle.std.specs.FinMap.{get, insert}
 use Rattle.tree_core.specs.declared.changes.Fresh.{Fresh}
 use Rattle.tree_core.specs.declared.changes.Fresh.TheVariants as fresh
 use Rattle.tree_core.specs.declared.node.Node.{Node}
 use Rattle.tree_core.specs.declared.node.Node.TheVariants.{Dir, Link, File}
-use Rattle.tree_core.specs.FileTree.{FileTree, IsTree, IsAbsent, IsDir, IsEmptyAt, Stands, is_dir_node, is_file_node}
+use Rattle.tree_core.specs.FileTree.{FileTree, IsTree, IsAbsent, Stands, is_dir_node, is_file_node}
 use Rattle.tree_core.proofs.TreeLemmas.{absent_below, absent_not}
 use Rattle.tree_core.proofs.Sound.{get-inserted, get-inserted_other, by_place}
 use Rattle.commit_steps.specs.Staging.{staging, staged, fresh_name}
 use Rattle.step_trees.specs.Leads.{start, with_fresh}
 use Rattle.step_trees.proofs.NameLemmas.{fresh_injects}
-use Rattle.commit_states.specs.Calls.{Items, CleansItems, node_or, fresh_node, fresh_nodes, number_behind, IsLawfulFresh, AreLawfulFresh, fresh_items}
-use Rattle.commit_states.specs.Reads.{IsNamed, AreOnce, AreRead}
+use Rattle.commit_states.specs.Calls.{CleansItems, node_or, fresh_node, fresh_nodes, number_behind, IsLawfulFresh, AreLawfulFresh, fresh_items}
+use Rattle.commit_states.specs.Reads.{IsNamed, AreOnce}
 use Rattle.commit_states.proofs.ReadLemmas.{IsItem, AreEmpty, cleans}
 
 no_dir_fresh : (old : FileTree) (n : ℕ) (f : Fresh) → IsLawfulFresh old f → is_dir_node (Some (fresh_node old n f)) ≡ false

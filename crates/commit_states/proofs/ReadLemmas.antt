@@ -1,6 +1,5 @@
 -- The names that are read in the staging directory are enough to clear it.
-use Rattle.std.proofs.Common.{◌≡◌, ◌≢◌, ◌⊎◌, inl, inr, ⊎_elim, ℕ, Bool, true, false, List, [], ◌∷◌, ◌++◌, refl, sym, ◌∙◌, ap, subst, Option, Some, None, is_some, IsTrue}
-use Rattle.std.proofs.lemmas.Option.{none-some}
+use Rattle.std.proofs.Common.{◌≡◌, ◌≢◌, ◌⊎◌, inl, inr, ⊎_elim, ℕ, Bool, true, false, List, [], ◌∷◌, ◌++◌, refl, sym, ◌∙◌, ap, Option, Some, None, is_some, IsTrue}
 use Rattle.std.specs.List.{AllByRecursion}
 use Rattle.std.specs.FinMap.{get, remove}
 use Rattle.tree_core.specs.declared.node.Node.{Node}
@@ -14,7 +13,7 @@ use Rattle.commit_states.specs.declared.held.Held.{Held}
 use Rattle.commit_states.specs.Interrupted.{IsFileNode, IsOne}
 use Rattle.commit_states.specs.Calls.{Items, removal_by, held_items, Cleans, CleansItems, ClearsItems, Unstages}
 use Rattle.commit_states.specs.Stops.{IsEarly}
-use Rattle.commit_states.specs.Reads.{IsNamed, AreOnce, AreRead, files}
+use Rattle.commit_states.specs.Reads.{IsNamed, AreRead, files}
 
 -- ---- one after another
 
