@@ -37,9 +37,10 @@ pub fn commits_are_safe()
     ensures can_fit { CommitsCanFit }
 {}
 
-/// Where a call of a commit failed. While the staging directory is filled: no journal has its name yet, in the tree that reads and in
-/// whatever a crash leaves, or `at-0` stands and no step is done. Among the steps and their markers: `plan` and a marker `at-m` stand, and any of the steps from
-/// m to the next cut are done. At the seal or behind it: whatever a crash leaves, recovery forward ends with the edited tree.
+/// Where a call of a commit failed. While the staging directory is filled: no journal has its name yet, in the tree that reads and
+/// in whatever a crash leaves, or `at-0` stands and no step is done. Among the steps and their markers: `plan` and a marker `at-m`
+/// stand, and any of the steps from m to the next cut are done. At the seal or behind it: whatever a crash leaves, recovery forward
+/// ends with the edited tree.
 pub fn failed_calls_leave_rows()
     ensures staging { FailedStagingsStop }
     ensures steps { FailedStepsHalt }
