@@ -19,3 +19,4 @@ pub mod PhaseLemmas
 pub mod ExampleLemmas
 pub mod ReadLemmas
 pub mod FreshLemmas
+pub mod ReadNameLemmas

@@ -1,7 +1,9 @@
 -- The names that are read in the staging directory are enough to clear it.
-use Rattle.std.specs.Prelude.{◌≡◌, ◌⊎◌, ℕ, ◌≤◌, ◌^◌, Bool, false, List, [], ◌∷◌, length}
-use Rattle.std.specs.List.{AllByRecursion}
+use Rattle.std.specs.Prelude.{◌≡◌, ◌⊎◌, ℕ, ◌≤◌, ◌^◌, Bool, false, not, List, [], ◌∷◌, length}
+use Rattle.std.specs.List.{AllByRecursion, filter}
 use Rattle.std.specs.FinMap.{get}
+use Rattle.std.specs.Str.{bytes_eq}
+use Rattle.tree_core.specs.Fields.{names_in}
 use Rattle.tree_core.specs.declared.changes.Fresh.{Fresh}
 use Rattle.tree_core.specs.FileTree.{FileTree, IsTree, IsAbsent, Stands, IsDir, is_dir_node}
 use Rattle.commit_steps.specs.Staging.{staging, staged, sealed, undone, at_marker, back_marker}
@@ -59,3 +61,18 @@ FreshNamesSuffice = (t : FileTree) → HoldsOnly t IsFresh → (xs : Items) → 
 abbrev pub FreshEntriesSuffice : Type 0
 FreshEntriesSuffice = (old : FileTree) (fs : List Fresh) (next : ℕ) → IsTree old → IsAbsent old staging → AreLawfulFresh old fs → length fs ≤ 2 ^ 32
     → CleansItems (fresh_items 0 fs) (start old (fresh_nodes old next fs))
+
+-- ---- what is read
+
+-- these names, with whether each is that of a directory
+abbrev pub items_in : FileTree → List (List ℕ) → Items
+items_in t [] = []
+items_in t (name ∷ names) = (name, is_dir_node (get t (staged name))) ∷ items_in t names
+
+-- The names in the staging directory are such, all of them,
+abbrev pub NamesAreRead : Type 0
+NamesAreRead = (t : FileTree) → AreRead t (λ name. ⊥) (items_in t (names_in t staging))
+
+-- and all but the journal's.
+abbrev pub OtherNamesAreRead : Type 0
+OtherNamesAreRead = (t : FileTree) (journal : List ℕ) → AreRead t (λ name. name ≡ journal) (items_in t (filter (λ name. not (bytes_eq journal name)) (names_in t staging)))

@@ -19,6 +19,8 @@ ghost use Rattle.commit_states.specs.Reads.{
   FreshEntriesSuffice,
   FreshNamesSuffice,
   HeldNamesSuffice,
+  NamesAreRead,
+  OtherNamesAreRead,
   SealedNamesSuffice,
   UndoneNamesSuffice,
 };
@@ -89,4 +91,6 @@ pub fn names_suffice()
     ensures held { HeldNamesSuffice }
     ensures fresh { FreshNamesSuffice }
     ensures start { FreshEntriesSuffice }
+    ensures all { NamesAreRead }
+    ensures others { OtherNamesAreRead }
 {}
