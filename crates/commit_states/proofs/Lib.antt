@@ -20,3 +20,4 @@ pub mod ExampleLemmas
 pub mod ReadLemmas
 pub mod FreshLemmas
 pub mod ReadNameLemmas
+pub mod RecoverLemmas

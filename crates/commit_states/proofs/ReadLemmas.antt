@@ -117,6 +117,13 @@ empty_by t Left Q only gives name dir others = by_node (get t (staged name)) ref
 held_empty : (t : FileTree) (name : List ℕ) (node : Node) → IsHeld t name node → IsTrue (is_dir_node (Some node)) → IsEmptyAt t (staged name)
 held_empty t name node h dir = ⊎_elim (λ kind. absurd (no_dir_node node kind dir)) (λ empty. empty) h.kind
 
+pub early_no_dir : (name : List ℕ) (node : Node) → IsEarly name node → is_dir_node (Some node) ≡ false
+early_no_dir name node may = by_kind (is_dir_node (Some node)) refl
+  where
+    by_kind : (b : Bool) → is_dir_node (Some node) ≡ b → is_dir_node (Some node) ≡ false
+    by_kind false e = e
+    by_kind true e = absurd (⊎_elim (λ o. file_no_dir node o.kind e) (λ more. ⊎_elim (λ o. file_no_dir node o.kind e) (λ f. no_dir_node node f.kind e) more) may)
+
 pub early_suffice : (t : FileTree) → IsDir t staging → HoldsOnly t IsEarly → (names : List (List ℕ)) → AreRead t (λ name. ⊥) (files names) → Unstages names t
 early_suffice t dir only names r = unstages names t dir (empty_by t (λ name. ⊥) IsEarly only (λ name node may is_dir.
     ⊎_elim (λ o. absurd (file_no_dir node o.kind is_dir)) (λ more. ⊎_elim (λ o. absurd (file_no_dir node o.kind is_dir)) (λ f. absurd (no_dir_node node f.kind is_dir)) more) may)) r

@@ -7,6 +7,7 @@ ghost use Rattle.commit_states.specs.Laws.{
   FailedStepsHalt,
   HaltsGoBack,
   HaltsGoForward,
+  InterruptedTreesRecover,
   SealsGoForward,
   TurnedGoBack,
   UndoneGoBack,
@@ -93,4 +94,10 @@ pub fn names_suffice()
     ensures start { FreshEntriesSuffice }
     ensures all { NamesAreRead }
     ensures others { OtherNamesAreRead }
+{}
+
+/// From each interrupted tree, where nothing else was left since a run began, some calls lead safely to the tree that its row says:
+/// forward or back, a crash at any moment leaves an interrupted tree, and behind them nothing is pending.
+pub fn interrupted_trees_recover()
+    ensures { InterruptedTreesRecover }
 {}
