@@ -1,10 +1,10 @@
 -- What a commit asks for can be met: by one that makes a directory.
-use Rattle.std.proofs.Common.{◌≡◌, ◌≢◌, ℕ, ◌≤◌, ◌<◌, List, [], ◌∷◌, length, refl, sym, ◌∙◌, ap, arith, None, IsTrue}
+use Rattle.std.proofs.Common.{◌≡◌, ◌≢◌, ℕ, ◌≤◌, List, [], ◌∷◌, length, refl, sym, ◌∙◌, ap, arith, None}
 use Rattle.std.proofs.lemmas.Option.{none-some}
 use Rattle.std.proofs.lemmas.Str.{IsUtf8-from_ascii}
 use Rattle.std.specs.Prelude.{codes}
 use Rattle.std.specs.FinMap.{get, insert}
-use Rattle.dired_text.specs.Paths.{Names, AreNames}
+use Rattle.dired_text.specs.Paths.{AreNames}
 use Rattle.tree_core.specs.declared.node.Node.TheVariants.{Dir}
 use Rattle.tree_core.specs.FileTree.{FileTree, IsTree, IsAbsent, is_dir_node}
 use Rattle.tree_core.proofs.TreeLemmas.{absent_below}

@@ -7,7 +7,7 @@ use Rattle.tree_core.specs.History.{History, Then, IsSound, current_tree, IsDura
 use Rattle.tree_core.specs.Runs.{then_all}
 use Rattle.tree_core.proofs.Moments.{durable-sync, Pending, pending-durable}
 use Rattle.tree_core.proofs.Runs.{IsSafe, closed_synced, safe_append, safe_all, safe_can, sound_all, single_synced, then_all-append}
-use Rattle.commit_states.proofs.CloseLemmas.{can_seal, sealed_clearing, Sealed, Clearing, Cleared, clear_all, Last, IsLast, closed_last, all_gone}
+use Rattle.commit_states.proofs.CloseLemmas.{can_seal, sealed_clearing, Clearing, Cleared, clear_all, closed_last, all_gone}
 use Rattle.commit_states.proofs.LoopLemmas.{Ready, forward_at}
 use Rattle.commit_states.proofs.SealLemmas.{IsSealed, IsLastSealed, LastSealed, last_marker, own-last_marker, sealed_plan, plan-last_marker, sealed-last_marker, less_held, carry_held, held_others, sealed_gives, last_gives}
 use Rattle.commit_states.specs.Calls.{seal_calls, Cleans, held_items, removals, last_calls, cleaning_calls}

@@ -35,7 +35,7 @@ use Rattle.commit_states.proofs.StageLemmas.{failed_staging}
 use Rattle.commit_states.proofs.UnstageLemmas.{safe_unstage, done_unstage}
 use Rattle.step_trees.specs.Entries.{IsHeld}
 use Rattle.step_trees.proofs.NameLemmas.{own-sealed, own-undone, own-back}
-use Rattle.commit_states.proofs.CloseLemmas.{Sealed, safe_close, done_close}
+use Rattle.commit_states.proofs.CloseLemmas.{safe_close, done_close}
 use Rattle.commit_states.proofs.SealLemmas.{IsSealed, IsUndone, last_marker, own-last_marker, sealed_plan, plan-last_marker, sealed-last_marker, less_held, sealed_gives, last_gives, back0, undone_plan, plan_back0, undone_back0, FreshIn, less_fresh, undone_gives, old_gives}
 
 pub leads_safely : (P : FileTree → Type 0) (target : FileTree) (began now : History) (changes : List Change) → IsSafe began P now changes
@@ -141,8 +141,7 @@ module _ (steps : List Step) (old new : FileTree) (fresh : List Node) where
     halts_go_back h =
         let l = led steps old new fresh leads (paths_of_journal steps _ h.u (current_tree now) h.stands) in
         let few = few_of_journal steps _ h.u (current_tree now) h.stands in
-        let t = at_turn steps old new fresh l few tree absent fs cleans began now h.moments h.sound h.m h.u h.le h.comes h.stands in
-        (
+        let t = at_turn steps old new fresh l few tree absent fs cleans began now h.moments h.sound h.m h.u h.le h.comes h.stands in (
           record { j = t.j; j_is = t.j_is; k = t.k; cut = t.cut; comes = t.comes },
           leads_safely P old began now
               (call.Sync ∷ (turn_calls h.m t.j ++ (home_calls steps t.j (taken_of (from_last_cut t.j (groups steps)) (after (take t.k steps) (start old fresh)) h.u t.comes) ++ end_calls fs)))

@@ -17,3 +17,7 @@ pub mod UncleanLemmas
 pub mod LawLemmas
 pub mod PhaseLemmas
 pub mod ExampleLemmas
+pub mod ReadLemmas
+pub mod FreshLemmas
+pub mod ReadNameLemmas
+pub mod RecoverLemmas

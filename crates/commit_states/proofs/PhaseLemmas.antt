@@ -1,12 +1,11 @@
 -- The rows of the table exclude one another.
-use Rattle.std.proofs.Common.{◌≡◌, ◌≢◌, ◌⊎◌, inl, inr, ⊎_elim, ℕ, zero, suc, ◌+◌, ◌≤◌, ◌<◌, ◌^◌, ◌==◌, Bool, true, false, List, [], ◌∷◌, ◌++◌, length, take, refl, sym, ◌∙◌, ap, subst, arith, Option, Some, None, is_some, IsTrue}
+use Rattle.std.proofs.Common.{◌≡◌, ◌≢◌, ◌⊎◌, inl, inr, ⊎_elim, ℕ, zero, suc, ◌+◌, ◌≤◌, ◌<◌, ◌^◌, ◌==◌, Bool, true, false, List, [], ◌∷◌, length, take, refl, sym, ◌∙◌, ap, subst, arith, Option, Some, None, is_some, IsTrue}
 use Rattle.std.proofs.lemmas.Bool.{cases_Bool, eqb-true, eq-eqb}
-use Rattle.std.proofs.lemmas.Option.{none-some}
 use Rattle.std.specs.FinMap.{get}
 use Rattle.dired_text.specs.Paths.{Names}
 use Rattle.tree_core.specs.declared.node.Node.{Node}
-use Rattle.tree_core.specs.declared.node.Node.TheVariants.{Dir, Link, File}
-use Rattle.tree_core.specs.FileTree.{FileTree, IsTree, IsAbsent, IsDir, IsFile, is_dir_node, is_file_node}
+use Rattle.tree_core.specs.declared.node.Node.TheVariants.{File}
+use Rattle.tree_core.specs.FileTree.{FileTree, IsTree, IsAbsent, IsFile, is_dir_node, is_file_node}
 use Rattle.tree_core.proofs.TreeLemmas.{absent_below}
 use Rattle.commit_steps.specs.declared.step.Step.{Step}
 use Rattle.commit_steps.specs.Staging.{staging, staged, plan, sealed, undone, new_journal, at_marker, back_marker}

@@ -1,17 +1,17 @@
 -- A recovery forward, where `plan` and `at-m` stand and any of the steps from m to the next cut are done.
-use Rattle.std.proofs.Common.{◌≡◌, ⊎_elim, ℕ, ◌+◌, ◌≤◌, ◌<◌, ◌^◌, nat_lt, List, [], ◌∷◌, ◌++◌, length, take, refl, sym, ◌∙◌, ap, subst, arith}
+use Rattle.std.proofs.Common.{◌≡◌, ⊎_elim, ℕ, ◌+◌, ◌≤◌, ◌<◌, ◌^◌, nat_lt, List, [], ◌∷◌, ◌++◌, length, take, sym, ◌∙◌, ap, subst, arith}
 use Rattle.tree_core.specs.declared.node.Node.{Node}
 use Rattle.tree_core.specs.declared.node.Change.{Change}
 use Rattle.tree_core.specs.declared.node.Change.TheVariants as call
 use Rattle.tree_core.specs.FileTree.{FileTree}
-use Rattle.tree_core.specs.History.{History, Then, IsSound, current_tree, IsDurable, LeavesOnly, IsCrashState}
+use Rattle.tree_core.specs.History.{History, Then, IsSound, current_tree, IsDurable, LeavesOnly}
 use Rattle.tree_core.specs.Runs.{then_all}
-use Rattle.tree_core.proofs.Moments.{durable-sync, started, goes_on-sync}
+use Rattle.tree_core.proofs.Moments.{durable-sync, goes_on-sync}
 use Rattle.tree_core.proofs.Runs.{IsSafe, safe_append, then_all-append}
 use Rattle.commit_states.proofs.FinishLemmas.{safe_finish, done_finish}
 use Rattle.commit_states.proofs.LoopLemmas.{Ready, Gone, go, safe_both, ready_next}
 use Rattle.commit_states.specs.Calls.{resume_calls, marked_calls, calls_from, seal_calls, Cleans, cleaning_calls}
-use Rattle.commit_states.specs.Interrupted.{StandsAs, StandsAfter, IsInterrupted, forward}
+use Rattle.commit_states.specs.Interrupted.{StandsAs, IsInterrupted, forward}
 use Rattle.commit_states.specs.declared.held.Held.{Held}
 use Rattle.commit_steps.specs.Staging.{staged, at_marker}
 use Rattle.commit_steps.specs.declared.step.Step.{Step}
@@ -114,8 +114,12 @@ module _ (steps : List Step) (old new : FileTree) (fresh : List Node) (leads : L
 
     -- A crash at any moment of it leaves an interrupted tree.
     pub safe_forward : IsSafe o P now (call.Sync ∷ forward_calls)
-    safe_forward = (moments, tt, safe_append o P synced (resume_calls steps m left) (seal_calls ++ cleaning_calls hs (length steps)) resumed.safe
-        (safe_finish steps old new fresh leads hs cleans o (then_all synced (resume_calls steps m left)) resumed.ready))
+    safe_forward = (
+      moments,
+      tt,
+      safe_append o P synced (resume_calls steps m left) (seal_calls ++ cleaning_calls hs (length steps)) resumed.safe
+          (safe_finish steps old new fresh leads hs cleans o (then_all synced (resume_calls steps m left)) resumed.ready),
+    )
 
     -- Behind it the edited tree stands, and nothing is pending.
     pub done_forward : (current_tree (then_all synced forward_calls) ≡ new) × IsDurable (then_all synced forward_calls)

@@ -6,13 +6,13 @@ use Rattle.tree_core.specs.declared.changes.Fresh.{Fresh}
 use Rattle.tree_core.specs.declared.node.Node.{Node}
 use Rattle.tree_core.specs.declared.node.Change.TheVariants as call
 use Rattle.tree_core.specs.FileTree.{FileTree, IsTree, IsAbsent, CanDo, renamed}
-use Rattle.tree_core.specs.History.{History, Then, IsSound, current_tree, IsDurable, LeavesOnly, IsCrashState}
+use Rattle.tree_core.specs.History.{History, Then, IsSound, current_tree, IsDurable, LeavesOnly}
 use Rattle.tree_core.specs.Runs.{then_all}
-use Rattle.tree_core.proofs.Moments.{durable-sync, Pending, pending-durable, started, goes_on-sync}
+use Rattle.tree_core.proofs.Moments.{durable-sync, Pending, pending-durable, goes_on-sync}
 use Rattle.tree_core.proofs.Sound.{sound_then}
 use Rattle.tree_core.proofs.Runs.{IsSafe, closed_synced, safe_append, safe_all, safe_can, sound_all, single_synced, then_all-append}
 use Rattle.commit_states.proofs.BackLemmas.{Returning, back_at, Home, home, safe_turn, turned, safe_turn_some, some_turned}
-use Rattle.commit_states.proofs.CloseLemmas.{can_seal, sealed_clearing, Sealed, Clearing, Cleared, clear_all, Last, IsLast, closed_last, all_gone}
+use Rattle.commit_states.proofs.CloseLemmas.{can_seal, sealed_clearing, Clearing, Cleared, clear_all, closed_last, all_gone}
 use Rattle.commit_states.proofs.CommitLemmas.{edited_by-none}
 use Rattle.commit_states.proofs.SealLemmas.{IsUndone, IsLastUndone, LastUndone, back0, undone_plan, plan_back0, undone_back0, FreshIn, less_fresh, carry_fresh, fresh_others, undone_gives, old_gives, start_only}
 use Rattle.commit_states.specs.Calls.{turn_place, CleansItems, fresh_items, removals_of, last_of, turn_calls, revoke_calls, clearing_calls, home_calls, end_calls}

@@ -19,12 +19,12 @@ use Rattle.tree_core.proofs.Moments.{durable-sync, pending-sync, Keeps, Pending,
 use Rattle.tree_core.proofs.Runs.{IsSafe, IsClosed, closed_failed, safe_failed, closed_append, closed_synced, closed_pending, closed_can, safe_append, safe_all, sound_all, single_synced, then_all-append}
 use Rattle.commit_states.proofs.LoopLemmas.{Ready, forward_at}
 use Rattle.commit_states.specs.Calls.{fresh_call, fresh_calls, node_or, fresh_node, fresh_nodes, number_behind, IsLawfulFresh, AreLawfulFresh, stage_calls, plan_calls}
-use Rattle.commit_states.specs.Interrupted.{bare, StandsAs, IsOne, IsJournalText, StandsAfter, IsInterrupted, nothing_staged, no_journal}
+use Rattle.commit_states.specs.Interrupted.{bare, StandsAs, IsJournalText, StandsAfter, IsInterrupted, nothing_staged, no_journal}
 use Rattle.commit_steps.specs.Staging.{staging, staged, plan, new_journal, at_marker, fresh_name}
 use Rattle.commit_steps.specs.declared.step.Step.{Step}
 use Rattle.step_trees.proofs.NameLemmas.{apart_staged, differ, i-plan, i-at, i-new, i-fresh, fresh_injects}
 use Rattle.step_trees.proofs.Without.{without-stood, without-comm, without-nothing, without-insert_in, without-insert_out, renamed-out, renamed-to, without-moved, IsClear}
-use Rattle.step_trees.specs.Entries.{without, rest, IsFileOrLink, IsFresh, HoldsOnly}
+use Rattle.step_trees.specs.Entries.{without, rest, IsFileOrLink}
 use Rattle.step_trees.specs.Leads.{start, with_fresh}
 use Rattle.step_trees.proofs.LeadLemmas.{Led}
 use Rattle.commit_states.proofs.OwnNames.{staging_names, at_names, fresh_names, new_names, plan_names}

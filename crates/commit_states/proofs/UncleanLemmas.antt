@@ -7,17 +7,14 @@ use Rattle.tree_core.specs.History.{History, current_tree, clock, IsCrashState}
 use Rattle.tree_core.specs.Runs.{FailedIn}
 use Rattle.tree_core.proofs.Moments.{started-durable, counts_now}
 use Rattle.tree_core.proofs.Runs.{IsSafe, safe_failed}
-use Rattle.commit_states.proofs.CloseLemmas.{Sealed, IsLast}
 use Rattle.commit_states.proofs.FinishLemmas.{safe_finish_as}
 use Rattle.commit_states.proofs.LoopLemmas.{Ready, forward_at}
-use Rattle.commit_states.proofs.SealLemmas.{IsSealed, IsLastSealed, last_marker, own-last_marker, sealed_plan, plan-last_marker, sealed-last_marker, less_held}
+use Rattle.commit_states.proofs.SealLemmas.{IsSealed, IsLastSealed}
 use Rattle.commit_states.specs.Calls.{seal_calls, Cleans, cleaning_calls}
 use Rattle.commit_states.specs.Interrupted.{StandsAfter, nothing_staged, no_journal, behind_seal, GoesForward}
 use Rattle.commit_states.specs.declared.held.Held.{Held}
-use Rattle.commit_steps.specs.Staging.{at_marker, sealed}
+use Rattle.commit_steps.specs.Staging.{at_marker}
 use Rattle.commit_steps.specs.declared.step.Step.{Step}
-use Rattle.step_trees.proofs.NameLemmas.{own-sealed}
-use Rattle.step_trees.specs.Entries.{IsHeld}
 use Rattle.step_trees.specs.Leads.{start}
 use Rattle.step_trees.specs.Steps.{after}
 use Rattle.step_trees.proofs.LeadLemmas.{Led}

@@ -1,5 +1,5 @@
 -- What may stand where a commit was stopped: for its steps, an old tree, an edited one and the fresh entries.
-use Rattle.std.specs.Prelude.{◌≡◌, ◌⊎◌, ℕ, ◌+◌, ◌≤◌, Bool, true, false, List, length, take, Some}
+use Rattle.std.specs.Prelude.{◌≡◌, ◌⊎◌, ℕ, ◌+◌, ◌≤◌, Bool, true, false, List, length, Some}
 use Rattle.std.specs.FinMap.{get}
 use Rattle.tree_core.specs.declared.node.Node.{Node}
 use Rattle.tree_core.specs.declared.node.Node.TheVariants.{Dir, Link, File}
@@ -8,9 +8,8 @@ use Rattle.commit_steps.specs.declared.step.Step.{Step}
 use Rattle.commit_steps.specs.Staging.{staging, staged, plan, sealed, undone, new_journal, at_marker, back_marker}
 use Rattle.commit_journal.specs.Grammar.{IsJournal}
 use Rattle.step_trees.specs.Entries.{without, rest, IsFresh, IsHeld, HoldsOnly}
-use Rattle.step_trees.specs.Steps.{after}
 use Rattle.step_trees.specs.Groups.{groups, to_next_cut, from_last_cut, ComesBySome}
-use Rattle.step_trees.specs.Leads.{start, at_place, Leads}
+use Rattle.step_trees.specs.Leads.{at_place, Leads}
 
 -- ---- journals and markers
 

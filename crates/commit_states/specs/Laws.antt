@@ -1,5 +1,5 @@
 -- Lists of calls that are safe and where they lead, as statements.
-use Rattle.std.specs.Prelude.{◌≡◌, ◌⊎◌, ℕ, ◌+◌, ◌≤◌, List, [], ◌∷◌, ◌++◌, length, take, codes}
+use Rattle.std.specs.Prelude.{Bool, ◌≡◌, ◌⊎◌, ℕ, ◌+◌, List, [], ◌∷◌, ◌++◌, length, codes}
 use Rattle.tree_core.specs.declared.changes.Fresh.{Fresh}
 use Rattle.tree_core.specs.declared.node.Node.{Node}
 use Rattle.tree_core.specs.declared.node.Change.{Change}
@@ -13,12 +13,11 @@ use Rattle.commit_steps.specs.declared.step.Step.TheVariants.{MakeDir}
 use Rattle.commit_journal.specs.declared.version.Version.TheVariants.{Two}
 use Rattle.commit_journal.specs.Spelling.{journal_text}
 use Rattle.commit_steps.specs.Staging.{staging, sealed, undone}
-use Rattle.step_trees.specs.Steps.{after}
-use Rattle.step_trees.specs.Groups.{groups, to_next_cut, from_last_cut, ComesBySome, left_of, taken_of}
+use Rattle.step_trees.specs.Groups.{groups}
 use Rattle.step_trees.specs.Leads.{start, at_place, Leads}
 use Rattle.commit_states.specs.declared.held.Held.{Held}
-use Rattle.commit_states.specs.Interrupted.{StandsAs, IsInterrupted, GoesForward}
-use Rattle.commit_states.specs.Calls.{fresh_nodes, commit_calls, staging_calls, calls_from, resume_calls, seal_calls, cleaning_calls, Cleans, turn_place, turn_calls, home_calls, end_calls, fresh_items, CleansItems, unstage_calls, Unstages, Items, ClearsItems, close_calls}
+use Rattle.commit_states.specs.Interrupted.{IsInterrupted, ending, GoesForward}
+use Rattle.commit_states.specs.Calls.{fresh_nodes, commit_calls, staging_calls, calls_from, resume_calls, seal_calls, cleaning_calls, Cleans, turn_calls, home_calls, end_calls, fresh_items, CleansItems, unstage_calls, Unstages, Items, ClearsItems, close_calls}
 use Rattle.commit_states.specs.Fits.{Fits, edited_by}
 use Rattle.commit_states.specs.Stops.{Unplanned, Halted, Turned, TurnsRound, still_left, already_done, to_undo, to_undo_behind, BehindSeal, AllUndone}
 
@@ -134,3 +133,13 @@ abbrev pub UndoneGoBack : Type 0
 UndoneGoBack =
     (steps : List Step) (old new : FileTree) (fresh : List Node) (began now : History) → Leads steps old new fresh → AllUndone steps old new fresh began now
     → (xs : Items) → ClearsItems undone xs (current_tree now) → LeadsSafely (IsInterrupted steps old new fresh) old began now (call.Sync ∷ close_calls undone xs)
+
+-- ---- all of it
+
+-- From each interrupted tree, in either direction (`true`: back), some calls lead safely to the tree that the row says.
+abbrev pub InterruptedTreesRecover : Type 0
+InterruptedTreesRecover =
+    (steps : List Step) (old new : FileTree) (fresh : List Node) (hs : List Held) (fs : List Fresh) (began now : History) (way : Bool)
+    → IsTree old → IsAbsent old staging → Cleans hs (at_place steps old fresh (length steps)) → CleansItems (fresh_items 0 fs) (start old fresh)
+    → LeavesOnly began now (IsInterrupted steps old new fresh) → IsSound now → (r : IsInterrupted steps old new fresh (current_tree now))
+    → (changes : List Change) × LeadsSafely (IsInterrupted steps old new fresh) (ending way r) began now changes

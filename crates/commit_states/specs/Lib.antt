@@ -4,3 +4,4 @@ pub mod Fits
 pub mod Stops
 pub mod Laws
 pub mod Phases
+pub mod Reads

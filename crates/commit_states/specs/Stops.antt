@@ -1,14 +1,13 @@
 -- Where a commit, a way back or a recovery may stand when it stops and is not crashed.
-use Rattle.std.specs.Prelude.{◌≡◌, ◌⊎◌, ℕ, ◌+◌, ◌≤◌, List, length, take}
+use Rattle.std.specs.Prelude.{◌≡◌, ◌⊎◌, ℕ, ◌+◌, ◌≤◌, List, length}
 use Rattle.tree_core.specs.declared.node.Node.{Node}
 use Rattle.tree_core.specs.FileTree.{FileTree, IsAbsent, IsDir}
 use Rattle.tree_core.specs.History.{History, Began, IsSound, current_tree, next_number, IsCrashState, LeavesOnly}
 use Rattle.commit_steps.specs.declared.step.Step.{Step}
 use Rattle.commit_steps.specs.Staging.{staging, sealed, undone, new_journal, at_marker, back_marker}
 use Rattle.step_trees.specs.Entries.{rest, IsHeld, IsFresh, HoldsOnly}
-use Rattle.step_trees.specs.Steps.{after}
 use Rattle.step_trees.specs.Groups.{groups, to_next_cut, from_last_cut, ComesBySome, left_of, taken_of}
-use Rattle.step_trees.specs.Leads.{start, at_place}
+use Rattle.step_trees.specs.Leads.{at_place}
 use Rattle.commit_states.specs.Interrupted.{JournalAt, IsOne, StandsAs, IsInterrupted}
 use Rattle.commit_states.specs.Calls.{turn_place}
 

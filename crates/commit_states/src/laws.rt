@@ -7,6 +7,7 @@ ghost use Rattle.commit_states.specs.Laws.{
   FailedStepsHalt,
   HaltsGoBack,
   HaltsGoForward,
+  InterruptedTreesRecover,
   SealsGoForward,
   TurnedGoBack,
   UndoneGoBack,
@@ -14,6 +15,16 @@ ghost use Rattle.commit_states.specs.Laws.{
   UnstagedGoBack,
 };
 ghost use Rattle.commit_states.specs.Phases.{JournalsTell, RowsExclude};
+ghost use Rattle.commit_states.specs.Reads.{
+  EarlyNamesSuffice,
+  FreshEntriesSuffice,
+  FreshNamesSuffice,
+  HeldNamesSuffice,
+  NamesAreRead,
+  OtherNamesAreRead,
+  SealedNamesSuffice,
+  UndoneNamesSuffice,
+};
 
 /// What stands tells the row of the table and the place of the marker, and where a journal stands the steps, whatever the commit was.
 pub fn rows_exclude_one_another()
@@ -29,9 +40,10 @@ pub fn commits_are_safe()
     ensures can_fit { CommitsCanFit }
 {}
 
-/// Where a call of a commit failed. While the staging directory is filled: no journal has its name yet, in the tree that reads and in
-/// whatever a crash leaves, or `at-0` stands and no step is done. Among the steps and their markers: `plan` and a marker `at-m` stand, and any of the steps from
-/// m to the next cut are done. At the seal or behind it: whatever a crash leaves, recovery forward ends with the edited tree.
+/// Where a call of a commit failed. While the staging directory is filled: no journal has its name yet, in the tree that reads and
+/// in whatever a crash leaves, or `at-0` stands and no step is done. Among the steps and their markers: `plan` and a marker `at-m`
+/// stand, and any of the steps from m to the next cut are done. At the seal or behind it: whatever a crash leaves, recovery forward
+/// ends with the edited tree.
 pub fn failed_calls_leave_rows()
     ensures staging { FailedStagingsStop }
     ensures steps { FailedStepsHalt }
@@ -69,4 +81,23 @@ pub fn turned_go_back()
 pub fn closed_ones_are_cleared()
     ensures sealed { SealsGoForward }
     ensures undone { UndoneGoBack }
+{}
+
+/// The names that are read in the staging directory of an interrupted tree, each with whether it is a directory, can be removed one
+/// after another, and then all is cleared but the journal, if one stands. So can the fresh entries of a commit in its first tree.
+pub fn names_suffice()
+    ensures early { EarlyNamesSuffice }
+    ensures sealed { SealedNamesSuffice }
+    ensures undone { UndoneNamesSuffice }
+    ensures held { HeldNamesSuffice }
+    ensures fresh { FreshNamesSuffice }
+    ensures start { FreshEntriesSuffice }
+    ensures all { NamesAreRead }
+    ensures others { OtherNamesAreRead }
+{}
+
+/// From each interrupted tree, where nothing else was left since a run began, some calls lead safely to the tree that its row says:
+/// forward or back, a crash at any moment leaves an interrupted tree, and behind them nothing is pending.
+pub fn interrupted_trees_recover()
+    ensures { InterruptedTreesRecover }
 {}

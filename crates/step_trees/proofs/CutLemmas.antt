@@ -1,6 +1,6 @@
 -- The cut of a list of steps into groups.
-use Rattle.std.proofs.Common.{◌≡◌, inl, inr, ⊎_elim, Bool, true, false, ◌&&◌, nat_le, List, [], ◌∷◌, ◌++◌, length, refl, sym, ◌∙◌, ap, subst, arith, append_assoc, length-append, Option, Some, None, is_none, IsTrue, if◌then◌else◌}
-use Rattle.std.proofs.lemmas.Bool.{cond-true, cond-false, cases_Bool}
+use Rattle.std.proofs.Common.{◌≡◌, inl, inr, ⊎_elim, ℕ, ◌≤◌, ◌<◌, Bool, true, false, ◌&&◌, nat_le, List, [], ◌∷◌, ◌++◌, length, refl, sym, ◌∙◌, ap, subst, arith, append_assoc, length-append, Option, Some, None, is_none, IsTrue, if◌then◌else◌}
+use Rattle.std.proofs.lemmas.Bool.{cond-true, cond-false, cases_Bool, le-leb, lt-leb}
 use Rattle.std.specs.List.{list_all}
 use Rattle.dired_text.specs.Paths.{Names, rest_below}
 use Rattle.tree_core.specs.FileTree.{FileTree}
@@ -13,6 +13,7 @@ use Rattle.step_trees.specs.Leads.{SetOther, SetApart, SetOthers, GroupsSetOther
 use Rattle.step_trees.specs.Steps.{step_done, after}
 use Rattle.step_trees.specs.Apart.{AreApart, IsApartStep, IsApart}
 use Rattle.step_trees.proofs.LeadLemmas.{LedFrom}
+use Rattle.step_trees.specs.Laws.{IsFull, AreFull}
 
 -- ---- the groups joined give the list
 
@@ -59,6 +60,44 @@ singly_groups (s ∷ steps) = ((omega arith, inr (s, refl)), singly_groups steps
 
 pub groups_groups : (steps : List Step) → AreGroups (groups steps)
 groups_groups steps = by_length steps AreGroups (singly_groups steps) (longest_groups steps)
+
+-- ---- each goes on as long as it can
+
+record Begins (x : Step) (gs : List (List Step)) : Type 0 where
+  pub others : List Step
+  pub later : List (List Step)
+  pub is : gs ≡ (x ∷ others) ∷ later
+
+grow_begins : (x : Step) (g steps : List Step) → Begins x (grow (x ∷ g) steps)
+grow_begins x g [] = record { others = g; later = []; is = refl }
+grow_begins x g (s ∷ steps) =
+    let more = grow_begins x (g ++ s ∷ []) steps in
+    elim (all_apart (all_paths (x ∷ g ++ s ∷ []))) as (λ b. Begins x (if b then grow (x ∷ g ++ s ∷ []) steps else (x ∷ g) ∷ grow (s ∷ []) steps)) [
+      | true ↦ more
+      | false ↦ record { others = g; later = grow (s ∷ []) steps; is = refl }
+    ]
+
+grow_full : (g steps : List Step) → AreFull (grow g steps)
+grow_full g [] = (tt, tt)
+grow_full g (s ∷ steps) =
+    let alone = grow_full (s ∷ []) steps in
+    let next = grow_begins s [] steps in
+    ⊎_elim
+    (λ more. subst AreFull (sym (cond-true (all_apart (all_paths (g ++ s ∷ []))) (grow (g ++ s ∷ []) steps) (g ∷ grow (s ∷ []) steps) more)) (grow_full (g ++ s ∷ []) steps))
+    (λ ends. subst AreFull (sym (cond-false (all_apart (all_paths (g ++ s ∷ []))) (grow (g ++ s ∷ []) steps) (g ∷ grow (s ∷ []) steps) ends))
+    (subst (IsFull g) (sym next.is) (λ independent. let e : true ≡ false = sym independent ∙ ends in cc), alone))
+    (cases_Bool (all_apart (all_paths (g ++ s ∷ []))))
+
+longest_full : (steps : List Step) → AreFull (longest steps)
+longest_full [] = tt
+longest_full (s ∷ steps) = grow_full (s ∷ []) steps
+
+pub groups_longest : (steps : List Step) → (8 < length steps → AreFull (groups steps)) × (length steps ≤ 8 → groups steps ≡ singly steps)
+unfolding groups
+groups_longest steps = (
+  λ many. subst AreFull (sym (cond-false (nat_le (length steps) 8) (singly steps) (longest steps) (lt-leb (length steps) 8 many))) (longest_full steps),
+  λ few. cond-true (nat_le (length steps) 8) (singly steps) (longest steps) (le-leb (length steps) 8 few),
+)
 
 -- ---- what independence says of two steps
 

@@ -1,5 +1,5 @@
 -- What holds of steps, of the groups that they are cut into, and of the trees that they lead through, as statements.
-use Rattle.std.specs.Prelude.{◌≡◌, ◌↔◌, ℕ, ◌<◌, ◌≤◌, List, length, get_or}
+use Rattle.std.specs.Prelude.{◌≡◌, ◌↔◌, ℕ, ◌<◌, ◌≤◌, List, [], ◌∷◌, ◌++◌, length, get_or}
 use Rattle.std.specs.List.{AllByRecursion}
 use Rattle.tree_core.specs.declared.node.Node.{Node}
 use Rattle.tree_core.specs.FileTree.{FileTree, IsTree, CanDo, done}
@@ -7,7 +7,7 @@ use Rattle.commit_steps.specs.declared.step.Step.{Step}
 use Rattle.commit_steps.specs.Steps.{HasPaths, IsLawfulStep}
 use Rattle.step_trees.specs.Apart.{AreApart}
 use Rattle.step_trees.specs.Steps.{IsStep, call_of, undo_of, step_done, after, IsBefore, IsAfter}
-use Rattle.step_trees.specs.Groups.{groups, joined, AreGroups, to_next_cut, ComesBySome, left_of, taken_of}
+use Rattle.step_trees.specs.Groups.{Independent, singly, groups, joined, AreGroups, to_next_cut, ComesBySome, left_of, taken_of}
 use Rattle.step_trees.specs.Leads.{start, at_place, HoldsEntries, Ends, Leads, SetOther}
 
 -- ---- one step
@@ -42,6 +42,20 @@ LooksAreKept = (s u : Step) (t : FileTree) → IsTree t → AreApart s u → Set
 -- The groups joined are the list. None is empty, and each is independent or one step.
 abbrev pub GroupsAreCut : Type 0
 GroupsAreCut = (steps : List Step) → (joined (groups steps) ≡ steps) × AreGroups (groups steps)
+
+-- with the next step the group wouldn't be independent
+abbrev pub IsFull : List Step → List (List Step) → Type 0
+IsFull g [] = Unit {0}
+IsFull g ([] ∷ gs) = ⊥
+IsFull g ((s ∷ h) ∷ gs) = Independent (g ++ s ∷ []) → ⊥
+
+abbrev pub AreFull : List (List Step) → Type 0
+AreFull [] = Unit {0}
+AreFull (g ∷ gs) = IsFull g gs × AreFull gs
+
+-- Of more than eight steps each group goes on as long as it can, and of up to eight each is one step.
+abbrev pub GroupsAreLongest : Type 0
+GroupsAreLongest = (steps : List Step) → (8 < length steps → AreFull (groups steps)) × (length steps ≤ 8 → groups steps ≡ singly steps)
 
 -- ---- steps that lead from an old tree to an edited one
 

@@ -1,6 +1,7 @@
 // Laws over the definitions alone.
 ghost use Rattle.step_trees.specs.Laws.{
   GroupsAreCut,
+  GroupsAreLongest,
   LooksAreKept,
   LooksTellWhichWereDone,
   NoneIsBoth,
@@ -32,9 +33,11 @@ pub fn looks_are_kept()
     ensures { LooksAreKept }
 {}
 
-/// The groups joined are the list of steps. No group is empty, and the steps of a group are independent unless it has only one.
+/// The groups joined are the list of steps. No group is empty, and the steps of a group are independent unless it has only one. Of
+/// more than eight steps each group goes on as long as it can; of up to eight each is one step.
 pub fn groups_are_cut()
-    ensures { GroupsAreCut }
+    ensures cut { GroupsAreCut }
+    ensures longest { GroupsAreLongest }
 {}
 
 /// Steps that lead from an old tree to an edited one: each is before in the tree with the ones before it done, and behind them all
