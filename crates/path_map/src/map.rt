@@ -1,5 +1,5 @@
 // Values by paths, found name by name.
-ghost use Rattle.std.specs.Prelude.{◌≡◌, ◌<◌, ℕ, IfOk, OnOk, Some, None, cond, length, map};
+ghost use Rattle.std.specs.Prelude.{◌≡◌, ◌<◌, ℕ, IfOk, OnOk, Some, None, cond, length, map, take};
 ghost use Rattle.std.specs.Option.{option_and_then, option_map};
 ghost use Rattle.std.specs.Ordering.{eq_by_cmp};
 ghost use Rattle.dired_text.specs.Paths.{Names, path_cmp};
@@ -60,6 +60,18 @@ impl<V: Drop> PathMap<V> {
             let found = self.value(at);
             values.push(found)?;
         }
+        Ok(values)
+    }
+
+    /// The values of the root and of each path down to the directory of this one.
+    ///
+    /// # Errors
+    /// Want of memory.
+    pub fn above(&self, alloc: Global, path: &Path) -> Result<Vec<Option<&V>>, Memory>
+        ensures { IfOk result (λ r. map (option_map (λ v. v.now)) r.items ≡ map (value_at self.now) (take (length path.now) (firsts path.now))) }
+    {
+        let mut values = self.along(alloc, path)?;
+        values.truncate(path.names().len());
         Ok(values)
     }
 
