@@ -5,3 +5,4 @@ pub mod BytesLemmas
 pub mod CountLemmas
 pub mod PlaceLemmas
 pub mod PlanLemmas
+pub mod StandingLemmas

@@ -1,7 +1,6 @@
 -- Claims of lines, as they come.
 use Rattle.std.specs.Prelude.{ℕ, ◌==◌, Bool, ◌||◌, List, [], ◌∷◌, Option, Some, None, if◌then◌else◌, is_some, min}
 use Rattle.std.specs.Option.{option_map}
-use Rattle.dired_text.specs.Paths.{Names}
 use Rattle.edit_words.specs.declared.row.Row.{Row}
 use Rattle.edit_rules.specs.declared.claims.Claim.{Claim}
 
@@ -28,10 +27,11 @@ lesser None b = b
 lesser (Some a) None = Some a
 lesser (Some a) (Some b) = Some (min a b)
 
--- the least of this line and of those that paths have
-abbrev pub least_line : (Names → Option ℕ) → Option ℕ → List Names → Option ℕ
+-- the least of this line and of those that others have
+abbrev pub least_line : {A : Type 0} → (A → Option ℕ) → Option ℕ → List A → Option ℕ
 least_line line so_far [] = so_far
-least_line line so_far (p ∷ ps) = least_line line (lesser so_far (line p)) ps
+least_line line so_far (x ∷ xs) = least_line line (lesser so_far (line x)) xs
+
 
 -- the line that names another mode for a file, where there is a file and a mode
 abbrev pub other_mode_line : (ℕ → Option Claim) → Option ℕ → Option ℕ → Option ℕ

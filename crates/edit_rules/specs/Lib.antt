@@ -2,3 +2,4 @@ pub mod Claims
 pub mod PathSets
 pub mod Tables
 pub mod Plans
+pub mod Standing

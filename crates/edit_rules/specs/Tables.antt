@@ -4,6 +4,8 @@ use Rattle.std.specs.Option.{option_map, unwrap_or}
 use Rattle.std.specs.Ordering.{nat_cmp}
 use Rattle.std.specs.BTreeMap.{BTreeMap, get}
 use Rattle.std.specs.BTreeSet.{BTreeSet, contains}
+use Rattle.path_map.specs.declared.map.PathMap.{PathMap}
+use Rattle.path_map.specs.Walks.{value_at}
 use Rattle.dired_text.specs.Paths.{Names, path_cmp}
 use Rattle.edit_words.specs.declared.row.Row.{Row}
 use Rattle.edit_words.specs.declared.row.Route.{Route}
@@ -18,12 +20,12 @@ use Rattle.edit_words.specs.Rows.{is_removed, is_written, is_same_path, row_from
 use Rattle.edit_rules.specs.Claims.{claims_behind}
 
 -- what becomes of each source
-abbrev pub AreRoutes : BTreeMap Names Route → List Row → Type 0
-AreRoutes routes rs = (p : Names) → get path_cmp routes p ≡ option_map (λ (r : Row). route_to p r.to) (row_from rs p)
+abbrev pub AreRoutes : PathMap Route → List Row → Type 0
+AreRoutes routes rs = (p : Names) → value_at routes p ≡ option_map (λ (r : Row). route_to p r.to) (row_from rs p)
 
 -- the lines that write each path
-abbrev pub AreWriters : BTreeMap Names Claim → List Row → Type 0
-AreWriters claims rs = (p : Names) → get path_cmp claims p ≡ claims_behind (λ (o : Row). is_same_path (written o) p) (λ (o : Row). o.line) None rs
+abbrev pub AreWriters : PathMap Claim → List Row → Type 0
+AreWriters claims rs = (p : Names) → value_at claims p ≡ claims_behind (λ (o : Row). is_same_path (written o) p) (λ (o : Row). o.line) None rs
 
 abbrev pub is_moved_by : Names → Option Names → Option Names → Bool
 is_moved_by p None to = false
@@ -31,8 +33,8 @@ is_moved_by p (Some source) None = false
 is_moved_by p (Some source) (Some to) = is_same_path source p
 
 -- the lines that give each source a new path
-abbrev pub AreMovers : BTreeMap Names Claim → List Row → Type 0
-AreMovers claims rs = (p : Names) → get path_cmp claims p ≡ claims_behind (λ (o : Row). is_moved_by p o.source o.to) (λ (o : Row). o.line) None rs
+abbrev pub AreMovers : PathMap Claim → List Row → Type 0
+AreMovers claims rs = (p : Names) → value_at claims p ≡ claims_behind (λ (o : Row). is_moved_by p o.source o.to) (λ (o : Row). o.line) None rs
 
 -- the new paths
 abbrev pub AreNewPaths : BTreeSet Names → List Row → Type 0

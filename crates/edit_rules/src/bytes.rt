@@ -1,17 +1,21 @@
 // The bytes of the paths of changes.
-ghost use Rattle.std.specs.Prelude.{◌≡◌, ◌≤◌, ◌*◌, ◌^◌, IfOk, None, length};
-ghost use Rattle.dired_text.specs.Paths.{path_bytes, max_path_bytes};
+ghost use Rattle.std.specs.Prelude.{◌≡◌, ◌≤◌, ◌+◌, ◌*◌, ◌^◌, ◌++◌, [], ◌∷◌, IfOk, OnOk, None, if◌then◌else◌, length, map, take};
+ghost use Rattle.dired_text.specs.Paths.{path_bytes, max_path_bytes, slashed};
 ghost use Rattle.edit_words.specs.Found.{sight_in};
 ghost use Rattle.edit_words.specs.Refusals.{first_fault, total};
 ghost use Rattle.edit_words.specs.Refusals as fault;
 ghost use Rattle.edit_words.specs.Rows.{written as written_path};
+ghost use Rattle.std.specs.Option.{option_map};
+ghost use Rattle.edit_rules.specs.Standing.{IsStanding, bytes_from, bytes_missing, is_standing, paths_missing};
 ghost use Rattle.edit_rules.specs.Tables.{IsTable};
 ghost use Rattle.edit_words.specs.WellFormed.{max_changes};
 
 use crate::places::place;
+use crate::standing::{Found, standing, stands};
 use crate::table::{Table, is_elsewhere, written};
 use dired_text::{Memory, Name, Path};
-use edit_words::{Findings, Row, ancestors};
+use edit_words::{Findings, Row, ancestor};
+use path_map::PathMap;
 use std::alloc::Global;
 
 /// The bytes of the paths of all changes: of an edit its source, its written path and its new place, of a removal or a creation
@@ -22,15 +26,22 @@ pub fn changed_bytes(alloc: Global, table: &Table, findings: &Findings) -> Resul
     requires short { first_fault (fault.across (sight_in findings.now) table.now.rows.items) table.now.rows.items ≡ None }
     ensures { IfOk result (λ bytes. bytes ≡ fault.changed_bytes (sight_in findings.now) table.now.rows.items) }
 {
+    let standing = standing(alloc, findings)?;
     let mut bytes = 0;
     for row in &table.rows {
-        bytes += row_bytes(alloc, table, findings, row)?;
+        bytes += row_bytes(alloc, table, findings, &standing, row)?;
     }
     Ok(bytes)
 }
 
 /// The directories that have to be made above the written path of a row, the highest first.
-pub fn missing_above(alloc: Global, findings: &Findings, row: &Row) -> Result<Vec<Path>, Memory>
+pub fn missing_above(
+    alloc: Global,
+    findings: &Findings,
+    standing: &PathMap<Found>,
+    row: &Row,
+) -> Result<Vec<Path>, Memory>
+    requires { IsStanding standing.now findings.now }
     ensures missing { IfOk result (λ v. v.items ≡ fault.missing_above (sight_in findings.now) row.now) }
     ensures few { IfOk result (λ v. length v.items ≤ 4096) }
 {
@@ -38,25 +49,109 @@ pub fn missing_above(alloc: Global, findings: &Findings, row: &Row) -> Result<Ve
         return Ok(Vec::new(alloc));
     }
     let path = written(alloc, row)?;
+    let above = standing.above(alloc, &path)?;
+    let missing = where_missing(alloc, &path, &above)?;
+    Ok(missing)
+}
+
+// The paths above a path at which nothing stands.
+fn where_missing(alloc: Global, path: &Path, above: &[Option<&Found>]) -> Result<Vec<Path>, Memory>
+    requires { length above.now ≡ length path.now }
+    ensures { IfOk result (λ v. v.items ≡ paths_missing [] path.now (map (option_map (λ f. f.now)) above.now)) }
+{
     let mut missing = Vec::new(alloc);
-    for ancestor in ancestors(alloc, &path)? {
-        if !findings.stands(&ancestor) {
-            missing.push(ancestor)?;
-        }
+    for at in 0..above.len() {
+        add_missing(alloc, &mut missing, path, at, above[at])?;
     }
     Ok(missing)
 }
 
+// Adds the path of the first names of a path, if nothing stands there.
+fn add_missing(
+    alloc: Global,
+    missing: &mut Vec<Path>,
+    path: &Path,
+    len: usize,
+    found: Option<&Found>,
+) -> Result<(), Memory>
+    requires { len ≤ length path.now }
+    ensures { OnOk result (missing.new.items ≡ missing.old.items ++ (if is_standing (option_map (λ f. f.now) found.entry) then [] else take len path.now ∷ [])) }
+{
+    if !stands(found) {
+        missing.push(ancestor(alloc, path, len)?)?;
+    }
+    Ok(())
+}
+
+// The bytes of the directories that have to be made above the written path of a row.
+fn missing_bytes(
+    alloc: Global,
+    findings: &Findings,
+    standing: &PathMap<Found>,
+    row: &Row,
+) -> Result<u64, Memory>
+    requires { IsStanding standing.now findings.now }
+    ensures bytes { IfOk result (λ bytes. bytes ≡ total path_bytes (fault.missing_above (sight_in findings.now) row.now)) }
+    ensures few { IfOk result (λ bytes. bytes ≤ 4096 * max_path_bytes) }
+{
+    if !is_elsewhere(row) {
+        return Ok(0);
+    }
+    let path = written(alloc, row)?;
+    let above = standing.above(alloc, &path)?;
+    Ok(bytes_above(path.names(), &above))
+}
+
+// The bytes of the paths above one of these names, where nothing stands. The root has none.
+fn bytes_above(names: &[Name], above: &[Option<&Found>]) -> u64
+    requires { path_bytes names.now ≤ max_path_bytes }
+    ensures bytes { result ≡ bytes_missing names.now (map (option_map (λ f. f.now)) above.now) }
+    ensures few { result ≤ 4096 * max_path_bytes }
+{
+    match names {
+        [] => 0,
+        [name, names @ ..] => match above {
+            [] => 0,
+            [_, above @ ..] => bytes_below(name.as_str().len() as u64, names, above),
+        },
+    }
+}
+
+// The bytes of a path of so many bytes, and of those with more of these names, but for the last one, where nothing stands.
+fn bytes_below(len: u64, names: &[Name], above: &[Option<&Found>]) -> u64
+    requires { len + length (slashed names.now) ≤ max_path_bytes }
+    ensures bytes { result ≡ bytes_from len names.now (map (option_map (λ f. f.now)) above.now) }
+    ensures few { result ≤ max_path_bytes * length (slashed names.now) }
+{
+    match names {
+        [] => 0,
+        [name, names @ ..] => match above {
+            [] => 0,
+            [found, above @ ..] => {
+                let own = if stands(*found) { 0 } else { len };
+                own + bytes_below(len + 1 + name.as_str().len() as u64, names, above)
+            }
+        },
+    }
+}
+
 // The bytes of the paths of a row.
-fn row_bytes(alloc: Global, table: &Table, findings: &Findings, row: &Row) -> Result<u64, Memory>
+fn row_bytes(
+    alloc: Global,
+    table: &Table,
+    findings: &Findings,
+    standing: &PathMap<Found>,
+    row: &Row,
+) -> Result<u64, Memory>
     requires table { IsTable table.now }
+    requires standing { IsStanding standing.now findings.now }
     requires short { fault.path_too_long table.now.rows.items row.now ≡ None }
     ensures bytes { IfOk result (λ bytes. bytes ≡ fault.row_bytes (sight_in findings.now) table.now.rows.items row.now) }
     ensures few { IfOk result (λ bytes. bytes ≤ 2 ^ 25) }
 {
     let own = own_bytes(alloc, table, row)?;
-    let missing = missing_above(alloc, findings, row)?;
-    Ok(own + total_len(&missing))
+    let missing = missing_bytes(alloc, findings, standing, row)?;
+    Ok(own + missing)
 }
 
 // The bytes of the paths that a row names, and of its new place.
@@ -74,19 +169,6 @@ fn own_bytes(alloc: Global, table: &Table, row: &Row) -> Result<u64, Memory>
         }
         _ => Ok(path_len(&path)),
     }
-}
-
-// The bytes of these paths.
-fn total_len(paths: &[Path]) -> u64
-    requires { length paths.now ≤ 4096 }
-    ensures bytes { result ≡ total path_bytes paths.now }
-    ensures few { result ≤ 4096 * max_path_bytes }
-{
-    let mut bytes = 0;
-    for path in paths {
-        bytes += path_len(path);
-    }
-    bytes
 }
 
 // The bytes of a path.

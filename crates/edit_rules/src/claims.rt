@@ -1,12 +1,15 @@
 // Which lines claim what.
-ghost use Rattle.std.specs.Prelude.{◌≡◌, ◌==◌, ℕ, OnOk, Some, None, cond};
+ghost use Rattle.std.specs.Prelude.{◌≡◌, ◌==◌, ℕ, IfOk, OnOk, Some, None, cond};
 ghost use Rattle.std.specs.BTreeMap.{get};
+ghost use Rattle.std.specs.Option.{option_map};
 ghost use Rattle.std.specs.Ordering.{nat_cmp};
-ghost use Rattle.dired_text.specs.Paths.{Names, path_cmp};
+ghost use Rattle.dired_text.specs.Paths.{Names};
+ghost use Rattle.path_map.specs.Walks.{IsPathMap, value_at};
 ghost use Rattle.edit_words.specs.Rows.{is_same_path};
 ghost use Rattle.edit_rules.specs.Claims.{claimed_by, first_line, other_line, least_line, lesser as lesser_line};
 
 use dired_text::{Memory, Path};
+use path_map::PathMap;
 use std::alloc::Global;
 use std::collections::BTreeMap;
 
@@ -59,54 +62,60 @@ pub fn lesser(a: Option<u32>, b: Option<u32>) -> Option<u32>
     }
 }
 
+/// The least first line of these claims.
+pub fn least(claims: &[Option<&Claim>]) -> Option<u32>
+    ensures { result ≡ least_line (λ claim. first_line (option_map (λ c. c.now) claim)) None claims.now }
+{
+    let mut least = None;
+    for claim in claims {
+        least = lesser(least, line_of(*claim));
+    }
+    least
+}
+
+/// The first line of a claim.
+pub fn line_of(claim: Option<&Claim>) -> Option<u32>
+    ensures { result ≡ first_line (option_map (λ c. c.now) claim.entry) }
+{
+    match claim {
+        None => None,
+        Some(claim) => Some(claim.line),
+    }
+}
+
 /// Which lines claim a path.
 #[derive(Drop)]
 pub struct PathClaims {
-    pub claims: BTreeMap<Path, Claim>,
+    pub claims: PathMap<Claim>,
 }
 
 impl PathClaims {
     /// No claims.
-    pub fn new(alloc: Global) -> Self
-        ensures { (p : Names) → get path_cmp result.claims p ≡ None }
+    pub fn new(alloc: Global) -> Result<Self, Memory>
+        ensures map { IfOk result (λ c. IsPathMap c.claims) }
+        ensures empty { IfOk result (λ c. (p : Names) → value_at c.claims p ≡ None) }
     {
-        PathClaims {
-            claims: BTreeMap::new(alloc),
-        }
+        Ok(PathClaims {
+            claims: PathMap::new(alloc)?,
+        })
     }
 
     /// Notes that a line claims a path. The lines come in their order.
-    pub fn note(&mut self, path: Path, line: u32) -> Result<(), Memory>
-        ensures { OnOk result ((p : Names) → get path_cmp self.new.claims p ≡ cond (is_same_path path p) (Some (claimed_by line line (get path_cmp self.old.claims p))) (get path_cmp self.old.claims p)) }
+    pub fn note(&mut self, path: &Path, line: u32) -> Result<(), Memory>
+        requires { IsPathMap self.old.claims }
+        ensures map { OnOk result (IsPathMap self.new.claims) }
+        ensures noted { OnOk result ((p : Names) → value_at self.new.claims p ≡ cond (is_same_path path.now p) (Some (claimed_by line line (value_at self.old.claims p))) (value_at self.old.claims p)) }
     {
-        let claim = claimed(self.claims.get(&path).copied(), line, line);
-        self.claims.insert(path, claim)?;
+        let claim = claimed(self.claims.get(path).copied(), line, line);
+        self.claims.set(path, claim)?;
         Ok(())
-    }
-
-    /// The first line that claims the path.
-    pub fn first(&self, path: &Path) -> Option<u32>
-        ensures { result ≡ first_line (get path_cmp self.now.claims path.now) }
-    {
-        self.claims.get(path).map(|claim| claim.line)
     }
 
     /// The first line but this one that claims the path.
     pub fn other(&self, path: &Path, line: u32) -> Option<u32>
-        ensures { result ≡ other_line (get path_cmp self.now.claims path.now) line }
+        ensures { result ≡ other_line (value_at self.now.claims path.now) line }
     {
         other_than(self.claims.get(path).copied(), line)
-    }
-
-    /// The least first line that claims one of these paths.
-    pub fn least(&self, paths: &[Path]) -> Option<u32>
-        ensures { result ≡ least_line (λ p. first_line (get path_cmp self.now.claims p)) None paths.now }
-    {
-        let mut least = None;
-        for path in paths {
-            least = lesser(least, self.first(path));
-        }
-        least
     }
 }
 

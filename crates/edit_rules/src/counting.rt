@@ -10,6 +10,7 @@ ghost use Rattle.edit_rules.specs.Tables.{IsTable};
 ghost use Rattle.edit_words.specs.WellFormed.{max_changes};
 
 use crate::bytes::missing_above;
+use crate::standing::standing;
 use crate::table::Table;
 use crate::victims::victim;
 use dired_text::{Memory, Path};
@@ -97,9 +98,10 @@ fn made(alloc: Global, rows: &[Row], findings: &Findings) -> Result<u32, Memory>
     requires { length rows.now ≤ max_changes }
     ensures { IfOk result (λ n. n ≡ different (flat_map (fault.missing_above (sight_in findings.now)) rows.now)) }
 {
+    let standing = standing(alloc, findings)?;
     let mut paths = BTreeSet::new(alloc);
     for row in rows {
-        let missing = missing_above(alloc, findings, row)?;
+        let missing = missing_above(alloc, findings, &standing, row)?;
         add_paths(&mut paths, &missing)?;
     }
     Ok(paths.len() as u32)

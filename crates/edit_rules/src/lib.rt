@@ -9,6 +9,7 @@ mod modes;
 mod places;
 mod refusal;
 mod rules;
+mod standing;
 mod table;
 mod victims;
 

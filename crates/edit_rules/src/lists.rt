@@ -8,6 +8,7 @@ ghost use Rattle.edit_rules.specs.Plans.{AreMissing, victims_of};
 ghost use Rattle.edit_rules.specs.Tables.{IsTable};
 
 use crate::bytes::missing_above;
+use crate::standing::standing;
 use crate::table::Table;
 use crate::victims::victim;
 use dired_text::{Memory, Path};
@@ -50,9 +51,10 @@ pub fn missing_by_path(
 fn all_missing(alloc: Global, rows: &[Row], findings: &Findings) -> Result<Vec<Path>, Memory>
     ensures { IfOk result (λ v. v.items ≡ flat_map (missing_above_of (sight_in findings.now)) rows.now) }
 {
+    let standing = standing(alloc, findings)?;
     let mut all = Vec::new(alloc);
     for row in rows {
-        let missing = missing_above(alloc, findings, row)?;
+        let missing = missing_above(alloc, findings, &standing, row)?;
         add_all(&mut all, missing)?;
     }
     Ok(all)

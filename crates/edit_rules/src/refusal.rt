@@ -13,6 +13,7 @@ ghost use Rattle.edit_words.specs.WellFormed.{LinesRise, max_changes};
 use crate::bytes::changed_bytes;
 use crate::claims::FileClaims;
 use crate::rules::{across, file_number};
+use crate::standing::standing;
 use crate::table::Table;
 use crate::victims::{Confirmations, directory_replaced, not_empty, unconfirmed};
 use dired_text::Memory;
@@ -62,9 +63,10 @@ fn first_across(
     requires lines { LinesRise table.now.rows.items }
     ensures { IfOk result (λ f. f ≡ first_fault (fault.across (sight_in findings.now) table.now.rows.items) table.now.rows.items) }
 {
+    let standing = standing(alloc, findings)?;
     let file_modes = file_modes_of(alloc, &table.rows, findings)?;
     for row in &table.rows {
-        if let Some(fault) = across(alloc, table, findings, &file_modes, row)? {
+        if let Some(fault) = across(alloc, table, findings, &standing, &file_modes, row)? {
             return Ok(Some(fault));
         }
     }

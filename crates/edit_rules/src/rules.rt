@@ -1,13 +1,14 @@
 // The rules that changes have to keep to, row by row.
-ghost use Rattle.std.specs.Prelude.{◌≡◌, IfOk, None, not, is_some, filter};
+ghost use Rattle.std.specs.Prelude.{◌≡◌, [], IfOk, None, length, map};
 ghost use Rattle.std.specs.BTreeMap.{get};
-ghost use Rattle.std.specs.List.{find};
 ghost use Rattle.std.specs.Option.{option_map};
 ghost use Rattle.std.specs.Ordering.{nat_cmp};
-ghost use Rattle.dired_text.specs.Paths.{path_cmp};
+ghost use Rattle.path_map.specs.Walks.{value_at};
 ghost use Rattle.edit_words.specs.declared.fault.CheckFault.TheVariants as faults;
 ghost use Rattle.edit_rules.specs.Claims.{first_line, least_line, other_mode_line};
-ghost use Rattle.edit_words.specs.Sight.{is_other, number_at};
+ghost use Rattle.edit_words.specs.Place.{ancestors};
+ghost use Rattle.edit_words.specs.Sight.{number_at};
+ghost use Rattle.edit_rules.specs.Standing.{IsStanding, least_missing, other_in};
 ghost use Rattle.edit_words.specs.Found.{sight_in};
 ghost use Rattle.edit_rules.specs.Tables.{AreFileModes, IsTable};
 ghost use Rattle.edit_words.specs.Rows.{written as written_path};
@@ -15,11 +16,13 @@ ghost use Rattle.edit_words.specs.Refusals.{is_staged_at};
 ghost use Rattle.edit_words.specs.Refusals as fault;
 ghost use Rattle.edit_words.specs.WellFormed.{LinesRise};
 
-use crate::claims::{FileClaims, lesser};
+use crate::claims::{Claim, FileClaims, least, lesser, line_of};
 use crate::places::place;
+use crate::standing::{Found, is_other, stands};
 use crate::table::{Table, is_elsewhere, written};
 use dired_text::{Memory, Path};
-use edit_words::{CheckFault, Findings, Row, ancestors};
+use edit_words::{CheckFault, Findings, Row, ancestor};
+use path_map::PathMap;
 use std::alloc::Global;
 
 /// The name of the staging directory of a commit.
@@ -30,10 +33,12 @@ pub fn across(
     alloc: Global,
     table: &Table,
     findings: &Findings,
+    standing: &PathMap<Found>,
     file_modes: &FileClaims,
     row: &Row,
 ) -> Result<Option<CheckFault>, Memory>
     requires table { IsTable table.now }
+    requires standing { IsStanding standing.now findings.now }
     requires file_modes { AreFileModes (sight_in findings.now) file_modes.now.claims table.now.rows.items }
     requires lines { LinesRise table.now.rows.items }
     ensures { IfOk result (λ f. f ≡ fault.across (sight_in findings.now) table.now.rows.items row.now) }
@@ -48,7 +53,7 @@ pub fn across(
     if let Some(fault) = mode_clash(table, findings, file_modes, row) {
         return Ok(Some(fault));
     }
-    if let Some(fault) = parents(alloc, table, findings, row, &path)? {
+    if let Some(fault) = parents(alloc, table, findings, standing, row, &path)? {
         return Ok(Some(fault));
     }
     path_too_long(alloc, table, row)
@@ -131,10 +136,12 @@ fn parents(
     alloc: Global,
     table: &Table,
     findings: &Findings,
+    standing: &PathMap<Found>,
     row: &Row,
     path: &Path,
 ) -> Result<Option<CheckFault>, Memory>
     requires table { IsTable table.now }
+    requires standing { IsStanding standing.now findings.now }
     requires lines { LinesRise table.now.rows.items }
     requires path { path.now ≡ written_path row.now }
     ensures { IfOk result (λ f. f ≡ fault.parents (sight_in findings.now) table.now.rows.items row.now) }
@@ -142,49 +149,87 @@ fn parents(
     if !is_elsewhere(row) {
         return Ok(None);
     }
-    let above = ancestors(alloc, path)?;
-    if let Some(fault) = no_directory(findings, row, &above)? {
+    let above = standing.above(alloc, path)?;
+    if let Some(fault) = no_directory(alloc, row, path, &above)? {
         return Ok(Some(fault));
     }
-    if let Some(fault) = moved_parent(table, row, &above) {
+    if let Some(fault) = moved_parent(alloc, table, row, path)? {
         return Ok(Some(fault));
     }
-    Ok(parent_taken(table, findings, row, &above))
+    let taken = parent_taken(alloc, table, row, path, &above)?;
+    Ok(taken)
 }
 
-// The first of these paths at which something other than a directory stands.
+// The first path above this one at which something other than a directory stands.
 fn no_directory(
-    findings: &Findings,
+    alloc: Global,
     row: &Row,
-    above: &[Path],
+    path: &Path,
+    above: &[Option<&Found>],
 ) -> Result<Option<CheckFault>, Memory>
-    ensures { IfOk result (λ f. f ≡ option_map (faults.ParentNotDirectory row.now.line) (find (λ p. is_other ((sight_in findings.now).at p)) above.now)) }
+    requires { length above.now ≡ length path.now }
+    ensures { IfOk result (λ f. f ≡ option_map (faults.ParentNotDirectory row.now.line) (other_in [] path.now (map (option_map (λ f. f.now)) above.now))) }
 {
-    match above.iter().find(|ancestor| findings.is_other(ancestor)) {
-        None => Ok(None),
-        Some(found) => Ok(Some(CheckFault::ParentNotDirectory(row.line, found.copy()?))),
-    }
-}
-
-// The least line that moves one of these paths.
-fn moved_parent(table: &Table, row: &Row, above: &[Path]) -> Option<CheckFault>
-    ensures { result ≡ option_map (faults.MovedParent row.now.line) (least_line (λ p. first_line (get path_cmp table.now.movers.claims p)) None above.now) }
-{
-    let other = table.movers.least(above);
-    other.map(|other| CheckFault::MovedParent(row.line, other))
-}
-
-// The least line that writes one of these paths where nothing stands.
-fn parent_taken(table: &Table, findings: &Findings, row: &Row, above: &[Path]) -> Option<CheckFault>
-    ensures { result ≡ option_map (faults.ParentTaken row.now.line) (least_line (λ p. first_line (get path_cmp table.now.writers.claims p)) None (filter (λ p. not (is_some ((sight_in findings.now).at p))) above.now)) }
-{
-    let mut least = None;
-    for ancestor in above {
-        if !findings.stands(ancestor) {
-            least = lesser(least, table.writers.first(ancestor));
+    for at in 0..above.len() {
+        if is_other(above[at]) {
+            let other = ancestor(alloc, path, at)?;
+            return Ok(Some(CheckFault::ParentNotDirectory(row.line, other)));
         }
     }
-    least.map(|other| CheckFault::ParentTaken(row.line, other))
+    Ok(None)
+}
+
+// The least line that moves a path above this one.
+fn moved_parent(
+    alloc: Global,
+    table: &Table,
+    row: &Row,
+    path: &Path,
+) -> Result<Option<CheckFault>, Memory>
+    ensures { IfOk result (λ f. f ≡ option_map (faults.MovedParent row.now.line) (least_line (λ p. first_line (value_at table.now.movers.claims p)) None (ancestors path.now))) }
+{
+    let movers = table.movers.claims.above(alloc, path)?;
+    let other = least(&movers);
+    Ok(other.map(|other| CheckFault::MovedParent(row.line, other)))
+}
+
+// The least line that writes a path above this one where nothing stands.
+fn parent_taken(
+    alloc: Global,
+    table: &Table,
+    row: &Row,
+    path: &Path,
+    above: &[Option<&Found>],
+) -> Result<Option<CheckFault>, Memory>
+    ensures { IfOk result (λ f. f ≡ option_map (faults.ParentTaken row.now.line) (least_missing None (map (value_at table.now.writers.claims) (ancestors path.now)) (map (option_map (λ f. f.now)) above.now))) }
+{
+    let writers = table.writers.claims.above(alloc, path)?;
+    let other = first_missing(None, &writers, above);
+    Ok(other.map(|other| CheckFault::ParentTaken(row.line, other)))
+}
+
+// The least of this line and of the first lines of claims where nothing stands.
+fn first_missing(
+    so_far: Option<u32>,
+    claims: &[Option<&Claim>],
+    above: &[Option<&Found>],
+) -> Option<u32>
+    ensures { result ≡ least_missing so_far (map (option_map (λ c. c.now)) claims.now) (map (option_map (λ f. f.now)) above.now) }
+{
+    match claims {
+        [] => so_far,
+        [claim, claims @ ..] => match above {
+            [] => so_far,
+            [found, above @ ..] => {
+                let least = if stands(*found) {
+                    so_far
+                } else {
+                    lesser(so_far, line_of(*claim))
+                };
+                first_missing(least, claims, above)
+            }
+        },
+    }
 }
 
 // A new place of more than 4,095 bytes.

@@ -1,9 +1,9 @@
 // The changes, found by their paths.
 ghost use Rattle.std.specs.Prelude.{◌≡◌, IfOk, OnOk, ◌||◌, ◌&&◌, ◌≢◌, [], Some, None, All, IsTrue, is_some, if◌then◌else◌};
 ghost use Rattle.std.specs.Option.{option_or};
-ghost use Rattle.std.specs.BTreeMap.{get};
 ghost use Rattle.std.specs.BTreeSet.{contains};
 ghost use Rattle.dired_text.specs.Paths.{Names, path_cmp, parent};
+ghost use Rattle.path_map.specs.Walks.{IsPathMap, value_at};
 ghost use Rattle.edit_words.specs.Rows.{is_at, is_elsewhere as is_elsewhere_row, is_same_path, is_source, is_victim, is_removed, route_of, route_to, written as written_path};
 ghost use Rattle.edit_rules.specs.Claims.{claimed_by};
 ghost use Rattle.edit_rules.specs.Tables.{AreRoutes, AreWriters, AreMovers, AreNewPaths, AreRemoved, IsTable, is_moved_by};
@@ -12,15 +12,16 @@ ghost use Rattle.edit_words.specs.WellFormed.{IsNoRoot};
 use crate::claims::PathClaims;
 use dired_text::{Memory, Name, Path};
 use edit_words::{Route, Row};
+use path_map::PathMap;
 use std::alloc::Global;
-use std::collections::{BTreeMap, BTreeSet};
+use std::collections::BTreeSet;
 
 /// The changes, found by their paths.
 #[derive(Drop)]
 pub struct Table {
     pub rows: Vec<Row>,
     // what becomes of each source
-    pub routes: BTreeMap<Path, Route>,
+    pub routes: PathMap<Route>,
     // the lines that write each path
     pub writers: PathClaims,
     // the lines that give each source a new path
@@ -84,11 +85,11 @@ fn route(source: &Path, to: &Option<Path>) -> Result<Route, Memory>
 }
 
 // What becomes of each source.
-fn routes_of(alloc: Global, rows: &[Row]) -> Result<BTreeMap<Path, Route>, Memory>
+fn routes_of(alloc: Global, rows: &[Row]) -> Result<PathMap<Route>, Memory>
     requires { All IsNoRoot rows.now }
     ensures { IfOk result (λ m. AreRoutes m rows.now) }
 {
-    let mut routes = BTreeMap::new(alloc);
+    let mut routes = PathMap::new(alloc)?;
     for row in rows {
         note_route(&mut routes, row)?;
     }
@@ -96,13 +97,15 @@ fn routes_of(alloc: Global, rows: &[Row]) -> Result<BTreeMap<Path, Route>, Memor
 }
 
 // Notes what becomes of a row's source, if nothing has been noted of it.
-fn note_route(routes: &mut BTreeMap<Path, Route>, row: &Row) -> Result<(), Memory>
-    requires { IsNoRoot row.now }
-    ensures { OnOk result ((p : Names) → get path_cmp routes.new p ≡ option_or (get path_cmp routes.old p) (if is_at p row.now.source then Some (route_to p row.now.to) else None)) }
+fn note_route(routes: &mut PathMap<Route>, row: &Row) -> Result<(), Memory>
+    requires not_root { IsNoRoot row.now }
+    requires map { IsPathMap routes.old }
+    ensures map { OnOk result (IsPathMap routes.new) }
+    ensures noted { OnOk result ((p : Names) → value_at routes.new p ≡ option_or (value_at routes.old p) (if is_at p row.now.source then Some (route_to p row.now.to) else None)) }
 {
     if let Some(source) = &row.source {
-        if !routes.contains_key(source) {
-            routes.insert(source.copy()?, route(source, &row.to)?)?;
+        if routes.get(source).is_none() {
+            routes.set(source, route(source, &row.to)?)?;
         }
     }
     Ok(())
@@ -112,9 +115,9 @@ fn note_route(routes: &mut BTreeMap<Path, Route>, row: &Row) -> Result<(), Memor
 fn writers_of(alloc: Global, rows: &[Row]) -> Result<PathClaims, Memory>
     ensures { IfOk result (λ claims. AreWriters claims.claims rows.now) }
 {
-    let mut writers = PathClaims::new(alloc);
+    let mut writers = PathClaims::new(alloc)?;
     for row in rows {
-        writers.note(written(alloc, row)?, row.line)?;
+        writers.note(&written(alloc, row)?, row.line)?;
     }
     Ok(writers)
 }
@@ -123,7 +126,7 @@ fn writers_of(alloc: Global, rows: &[Row]) -> Result<PathClaims, Memory>
 fn movers_of(alloc: Global, rows: &[Row]) -> Result<PathClaims, Memory>
     ensures { IfOk result (λ claims. AreMovers claims.claims rows.now) }
 {
-    let mut movers = PathClaims::new(alloc);
+    let mut movers = PathClaims::new(alloc)?;
     for row in rows {
         note_mover(&mut movers, row)?;
     }
@@ -132,10 +135,12 @@ fn movers_of(alloc: Global, rows: &[Row]) -> Result<PathClaims, Memory>
 
 // Notes the line of a row that gives its source a new path.
 fn note_mover(movers: &mut PathClaims, row: &Row) -> Result<(), Memory>
-    ensures { OnOk result ((p : Names) → get path_cmp movers.new.claims p ≡ (if is_moved_by p row.now.source row.now.to then Some (claimed_by row.now.line row.now.line (get path_cmp movers.old.claims p)) else get path_cmp movers.old.claims p)) }
+    requires { IsPathMap movers.old.claims }
+    ensures map { OnOk result (IsPathMap movers.new.claims) }
+    ensures noted { OnOk result ((p : Names) → value_at movers.new.claims p ≡ (if is_moved_by p row.now.source row.now.to then Some (claimed_by row.now.line row.now.line (value_at movers.old.claims p)) else value_at movers.old.claims p)) }
 {
     if let (Some(source), Some(_)) = (&row.source, &row.to) {
-        movers.note(source.copy()?, row.line)?;
+        movers.note(source, row.line)?;
     }
     Ok(())
 }
@@ -202,7 +207,7 @@ impl Table {
         requires { IsTable self.now }
         ensures { result ≡ is_source self.now.rows.items path.now }
     {
-        self.routes.contains_key(path)
+        self.routes.get(path).is_some()
     }
 
     /// Whether the path is the new path of a change and the source of none, so that what stands there is replaced.
