@@ -166,9 +166,8 @@ impl MemTree {
         self.store.same(&other.store)
     }
 
-    // Whether a call can be done: a test of the conditions of the changing calls.
-    #[cfg(test)]
-    pub(crate) fn can(&self, change: &Change) -> bool
+    /// Whether a changing call can be made: its condition holds in the tree that reads. It takes no memory.
+    pub fn can(&self, change: &Change) -> bool
         ensures { IsTrue result ↔ CanDo change.now (tree_told self.now) }
     {
         self.store.can(change)
