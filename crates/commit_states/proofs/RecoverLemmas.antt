@@ -1,15 +1,14 @@
 -- From each row of the table a recovery.
-use Rattle.std.proofs.Common.{◌≡◌, ◌⊎◌, inl, inr, ⊎_elim, ℕ, Bool, true, false, not, List, [], ◌∷◌, ◌++◌, length, refl, sym, ◌∙◌, ap, subst, Some, None, Option, is_some, IsTrue}
+use Rattle.std.proofs.Common.{◌≡◌, ◌⊎◌, inl, inr, ⊎_elim, ℕ, Bool, true, false, not, List, [], ◌∷◌, ◌++◌, length, refl, ◌∙◌, ap, subst, Some, None, Option, is_some, IsTrue}
 use Rattle.std.specs.List.{AllByRecursion, filter}
 use Rattle.std.specs.FinMap.{get}
 use Rattle.std.specs.Str.{bytes_eq}
 use Rattle.tree_core.specs.declared.changes.Fresh.{Fresh}
 use Rattle.tree_core.specs.declared.node.Node.{Node}
-use Rattle.tree_core.specs.declared.node.Node.TheVariants.{Dir, Link, File}
 use Rattle.tree_core.specs.declared.node.Change.{Change}
 use Rattle.tree_core.specs.declared.node.Change.TheVariants as call
 use Rattle.tree_core.specs.Fields.{names_in}
-use Rattle.tree_core.specs.FileTree.{FileTree, IsTree, IsAbsent, IsDir, Stands, is_dir_node}
+use Rattle.tree_core.specs.FileTree.{FileTree, IsTree, IsAbsent, IsDir, is_dir_node}
 use Rattle.tree_core.specs.History.{History, Then, IsSound, current_tree, LeavesOnly}
 use Rattle.tree_core.proofs.Moments.{durable-sync, goes_on-sync, pending-durable, Pending}
 use Rattle.tree_core.proofs.Sound.{sound_then}
@@ -76,8 +75,7 @@ module _ (steps : List Step) (old new : FileTree) (fresh : List Node) (hs : List
 
     recover_early : Recovers (rest t)
     recover_early =
-        let can = early_suffice t dir only names early_read in
-        (
+        let can = early_suffice t dir only names early_read in (
           call.Sync ∷ (unstage_calls names ++ call.Sync ∷ []),
           leads_safely P (rest t) began now (call.Sync ∷ (unstage_calls names ++ call.Sync ∷ []))
               (moments, tt, safe_unstage (rest t) names began synced P is_row (synced_moments r) pending can)
@@ -93,7 +91,13 @@ module _ (steps : List Step) (old new : FileTree) (fresh : List Node) (hs : List
   recover_from false (forward leads m u le some s) = (_, go_forward steps old new fresh hs began now leads cleans record { m = m; u = u; le = le; comes = some; stands = s; moments = moments; sound = sound })
   recover_from true (forward leads m u le some s) = (_, (halts_go_back steps old new fresh fs began now leads tree absent fresh_cleans record { m = m; u = u; le = le; comes = some; stands = s; moments = moments; sound = sound }).1)
   recover_from way (back leads k m u le cut some s) = (_, turned_go_back steps old new fresh fs began now leads tree absent fresh_cleans record { k = k; m = m; u = u; le = le; cut = cut; comes = some; stands = s; moments = moments; sound = sound })
-  recover_from way (behind_seal leads dir journal only is) = (_, seals_go_on steps old new fresh began now leads record { dir = dir; journal = journal; only = only; is = is; moments = moments; sound = sound } (others sealed)
-      (sealed_suffice t (length steps) only (others sealed) (others_read t sealed)))
-  recover_from way (all_undone leads dir journal only is) = (_, undone_go_on steps old new fresh began now leads record { dir = dir; journal = journal; only = only; is = is; moments = moments; sound = sound } (others undone)
-      (undone_suffice t only (others undone) (others_read t undone)))
+  recover_from way (behind_seal leads dir journal only is) = (
+    _,
+    seals_go_on steps old new fresh began now leads record { dir = dir; journal = journal; only = only; is = is; moments = moments; sound = sound } (others sealed)
+        (sealed_suffice t (length steps) only (others sealed) (others_read t sealed)),
+  )
+  recover_from way (all_undone leads dir journal only is) = (
+    _,
+    undone_go_on steps old new fresh began now leads record { dir = dir; journal = journal; only = only; is = is; moments = moments; sound = sound } (others undone)
+        (undone_suffice t only (others undone) (others_read t undone)),
+  )
