@@ -95,7 +95,7 @@ unstages (x ∷ xs) t dir empty r = (
 
 -- ---- what the rows say of directories
 
-no_dir_node : (node : Node) → IsFileOrLink node → IsTrue (is_dir_node (Some node)) → ⊥
+pub no_dir_node : (node : Node) → IsFileOrLink node → IsTrue (is_dir_node (Some node)) → ⊥
 no_dir_node (Dir m) kind dir = kind
 no_dir_node (Link target) kind dir = cc
 no_dir_node (File n b m) kind dir = cc

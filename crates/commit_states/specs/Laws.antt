@@ -1,5 +1,5 @@
 -- Lists of calls that are safe and where they lead, as statements.
-use Rattle.std.specs.Prelude.{Bool, ◌≡◌, ◌⊎◌, ℕ, ◌+◌, List, [], ◌∷◌, ◌++◌, length, codes}
+use Rattle.std.specs.Prelude.{Bool, ◌≡◌, ◌⊎◌, ℕ, ◌+◌, List, [], ◌∷◌, ◌++◌, length, codes, ◌≤◌, ◌^◌}
 use Rattle.tree_core.specs.declared.changes.Fresh.{Fresh}
 use Rattle.tree_core.specs.declared.node.Node.{Node}
 use Rattle.tree_core.specs.declared.node.Change.{Change}
@@ -139,7 +139,6 @@ UndoneGoBack =
 -- From each interrupted tree, in either direction (`true`: back), some calls lead safely to the tree that the row says.
 abbrev pub InterruptedTreesRecover : Type 0
 InterruptedTreesRecover =
-    (steps : List Step) (old new : FileTree) (fresh : List Node) (hs : List Held) (fs : List Fresh) (began now : History) (way : Bool)
-    → IsTree old → IsAbsent old staging → Cleans hs (at_place steps old fresh (length steps)) → CleansItems (fresh_items 0 fs) (start old fresh)
+    (steps : List Step) (old new : FileTree) (fresh : List Node) (began now : History) (way : Bool) → IsTree old → IsAbsent old staging → length fresh ≤ 2 ^ 32
     → LeavesOnly began now (IsInterrupted steps old new fresh) → IsSound now → (r : IsInterrupted steps old new fresh (current_tree now))
     → (changes : List Change) × LeadsSafely (IsInterrupted steps old new fresh) (ending way r) began now changes
