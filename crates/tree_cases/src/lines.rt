@@ -3,7 +3,7 @@ use crate::looks::{call_word, print_look};
 use crate::making::{call, print_can};
 use crate::stop::Stop;
 use crate::trees::print_tree;
-use crate::words::{entries_of, fates_of, number_of, places_of};
+use crate::words::{entries_of, fates_of, number_of, parts, places_of};
 use mem_tree::{BuildFault, MemTree};
 
 /// Does what a line asks for, and prints what came.
@@ -17,13 +17,13 @@ pub fn answer(rt: HostRuntime, tree: &mut MemTree, line: &str) -> Result<(), Sto
         "fail_looks" => Ok(tree.fail_looks(&places_of(alloc, rest)?)?),
         "call" => call(rt, tree, rest),
         "can" => print_can(rt, tree, rest),
-        "reads" => print_tree(rt, tree, "reads"),
+        "reads" if rest.is_empty() => print_tree(rt, tree, "reads"),
         "same" => {
             let is_same = tree.same(&MemTree::new(alloc, &entries_of(alloc, rest)?)?);
             Ok(println!(rt; "same {is_same}")?)
         }
         "images" => print_images(rt, tree, rest),
-        "faults" => print_faults(rt, tree),
+        "faults" if rest.is_empty() => print_faults(rt, tree),
         "kind" | "mode" | "is_empty" | "meta" | "names" | "read" => print_look(
             rt, tree, word, rest,
         ),
@@ -48,9 +48,10 @@ fn build(rt: HostRuntime, tree: &mut MemTree, entries: &str) -> Result<(), Stop>
 fn print_images(rt: HostRuntime, tree: &MemTree, words: &str) -> Result<(), Stop> {
     let mut images = tree.images()?;
     let count = images.len();
-    let (first, shown) = match words.split_once(' ') {
-        Some((first, shown)) => (number_of(first)?, number_of(shown)?),
-        None => (0, count as u64),
+    let (first, shown) = match parts(rt.alloc(), words, ' ')?.as_slice() {
+        [] => (0, count as u64),
+        [first, shown] => (number_of(first)?, number_of(shown)?),
+        _ => return Err(Stop::BadLine),
     };
     println!(rt; "images {count}")?;
     let last = first.saturating_add(shown);

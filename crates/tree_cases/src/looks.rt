@@ -57,8 +57,11 @@ pub fn print_look<T: Tree>(
 ) -> Result<(), Stop>
     ensures untouched { T.Tells → T.history tree.new ≡ T.history tree.old }
 {
-    let (path, limit) = words.split_once(' ').unwrap_or((words, "0"));
-    let limit = number_of(limit)?;
+    let (path, limit) = match (call, words.split_once(' ')) {
+        ("read", Some((path, limit))) => (path, number_of(limit)?),
+        ("read", None) | (_, Some(_)) => return Err(Stop::BadLine),
+        (_, None) => (words, 0),
+    };
     let path = path_of(rt.alloc(), path)?;
     let Ok(kind) = tree.kind(&path) else {
         return Ok(println!(rt; "{call} failed")?);

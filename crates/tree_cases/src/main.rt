@@ -14,7 +14,7 @@
 //! - `faults`: prints how many calls have failed, the names of the last one and of the one before it, and how many of them
 //!   failed for want of memory.
 //! - `kind PATH`, `mode PATH`, `is_empty PATH`, `meta PATH`, `names PATH`, `read PATH LIMIT`: a look, and what it answers, or
-//!   `none` where there is nothing to look at.
+//!   `none` where there is nothing to look at. Each but `kind` is made behind a look at the kind, which counts as one too.
 //!
 //! An entry is `d,PATH,MODE`, `l,PATH,TARGET` or `f,PATH,NUMBER,BYTES,MODE`, and may end with `@` and its time. A call is
 //! `make_dir,PATH,MODE`, `make_link,PATH,TARGET`, `make_hard,PATH,OLD`, `write_file,PATH,BYTES,MODE`, `rename,FROM,TO`,
