@@ -100,6 +100,7 @@ all_bytes_found f (n ∷ p) = ap (λ (k : ℕ). bytes_from k p (map f (down (n �
   where
     one : length n ≡ path_bytes (n ∷ [])
     one = let e : length (n ++ []) ≡ length n + 0 = length-append n [] in omega (arith, e)
+
     go : (b : Bool) → bytes_from (path_bytes (n ∷ [])) p (map f (down (n ∷ []) p)) ≡ total path_bytes (filter (λ (q : Names). not (is_standing (f q))) (down (n ∷ []) p))
         → bytes_from (path_bytes (n ∷ [])) p (map f (down (n ∷ []) p))
         ≡ total path_bytes (cond (not b) ([] ∷ filter (λ (q : Names). not (is_standing (f q))) (down (n ∷ []) p)) (filter (λ (q : Names). not (is_standing (f q))) (down (n ∷ []) p)))

@@ -32,7 +32,6 @@ abbrev pub least_line : {A : Type 0} → (A → Option ℕ) → Option ℕ → L
 least_line line so_far [] = so_far
 least_line line so_far (x ∷ xs) = least_line line (lesser so_far (line x)) xs
 
-
 -- the line that names another mode for a file, where there is a file and a mode
 abbrev pub other_mode_line : (ℕ → Option Claim) → Option ℕ → Option ℕ → Option ℕ
 other_mode_line claims None mode = None

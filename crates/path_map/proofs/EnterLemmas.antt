@@ -82,6 +82,7 @@ module _ (old new : Below) (at : ℕ) (name : List ℕ) (e : IsEntered old new a
           let a : i ≡ at = same.0 in
           let b : j ≡ length old = same.2 in
           (omega (arith, made, a, b), omega (arith, longer, b))
+
       one : (i k j : ℕ) (n o : List ℕ) → (child old i n ≡ Some j) ⊎ ((i ≡ at) × (n ≡ name) × (j ≡ length old)) → (child old k o ≡ Some j) ⊎ ((k ≡ at) × (o ≡ name) × (j ≡ length old)) → (i ≡ k) × (n ≡ o)
       one i k j n o (inl a) (inl b) = is.one i k j n o a b
       one i k j n o (inl a) (inr b) = let made : j < length old = (is.later i j n a).1 in let fresh : j ≡ length old = b.2 in absurd (omega (arith, made, fresh))
@@ -105,11 +106,13 @@ module _ (old new : Below) (at : ℕ) (name : List ℕ) (e : IsEntered old new a
       inner : (k : ℕ) → child old i n ≡ Some k → (walk old k p ≡ Some j) ⊎ (j ≡ length old) → (walk old i (n ∷ p) ≡ Some j) ⊎ (j ≡ length old)
       inner k edge (inl before) = inl (step old i k n p (Some j) edge before)
       inner k edge (inr fresh) = inr fresh
+
       outer : (k : ℕ) (q : Names) → k ≡ length old → walk new k q ≡ Some j → j ≡ length old
       outer k [] same rest = sym (same_Some k j rest) ∙ same
       outer k (m ∷ q) same rest =
           let s = stepped new k j m q rest in
           absurd (none-some s.0 (sym (past m) ∙ sym (ap (λ (i : ℕ). child new i m) same) ∙ s.1))
+
       by : ((k : ℕ) → walk new k p ≡ Some j → (walk old k p ≡ Some j) ⊎ (j ≡ length old)) → (k : ℕ)
           → (child old i n ≡ Some k) ⊎ ((i ≡ at) × (n ≡ name) × (k ≡ length old)) → walk new k p ≡ Some j → (walk old i (n ∷ p) ≡ Some j) ⊎ (j ≡ length old)
       by later k (inl edge) rest = inner k edge (later k rest)

@@ -115,11 +115,13 @@ module _ {V : Type 0} where
     where
       here : value_of (set values at (Some v)) at ≡ Some v
       here = ap (option_and_then (λ (o : Option V). o)) (got_set values at (Some v) made)
+
       other : eq_by_cmp path_cmp path q ≡ false → (o : Option ℕ) → walk below 0 q ≡ o → option_and_then (value_of (set values at (Some v))) o ≡ option_and_then (value_of values) o
       other differs None none = refl
       other differs (Some j) some = ap (option_and_then (λ (o : Option V). o)) (got_beside values at j (Some v) (λ e.
           let same : path ≡ q = walk_one below at path q is walked (some ∙ ap (λ (i : ℕ). Some i) e) in
           false≢true (sym differs ∙ subst (λ (r : Names). eq_by_cmp path_cmp path r ≡ true) same (path_itself path))))
+
       go : (eq_by_cmp path_cmp path q ≡ true) ⊎ (eq_by_cmp path_cmp path q ≡ false)
           → option_and_then (value_of (set values at (Some v))) (walk below 0 q) ≡ cond (eq_by_cmp path_cmp path q) (Some v) (option_and_then (value_of values) (walk below 0 q))
       go (inl same) = rw same (ap (option_and_then (value_of (set values at (Some v)))) (sym (ap (walk below 0) (same_path path q same)) ∙ walked) ∙ here)

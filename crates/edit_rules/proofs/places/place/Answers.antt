@@ -43,7 +43,7 @@ loop-at-init c =
     let is : x ≡ get_or items last x = search rules in
     let shown : option_map (λ t. t.now) x ≡ value_at routes (take last path) = route_at (option_map (λ t. t.now)) items (value_at routes) path found last x short is in
     let route : route_of rows (take last path) ≡ unwrap_or (option_map (λ t. t.now) x) Stays =
-        sym (ap (λ (o : Option Route). unwrap_or o Stays) (shown ∙ c.requires.routes (take last path)) ∙ route_noted (take last path) (row_from rows (take last path))) in
+    sym (ap (λ (o : Option Route). unwrap_or o Stays) (shown ∙ c.requires.routes (take last path)) ∙ route_noted (take last path) (row_from rows (take last path))) in
     begun (route_of rows) path last c.in_ok-start.start c.in_ok-start.to.items (option_map (λ t. t.now) x) short route (search rules)
 
 pub loop-at-preserved : goal.loop-at-preserved
@@ -64,7 +64,7 @@ loop-at-preserved c =
     let shown : option_map (λ t. t.now) x ≡ value_at routes old = route_at (option_map (λ t. t.now)) items (value_at routes) path found (at + 1) x (omega (arith, below)) is in
     let got : c.in_ok-to.to.items ≡ routed (unwrap_or (option_map (λ t. t.now) x) Stays) to name = search rules in
     let next : c.in_ok-to.to.items ≡ routed (route_of rows old) to name =
-        got
-        ∙ ap (λ (o : Option Route). routed (unwrap_or o Stays) to name) (shown ∙ c.requires.routes old)
-        ∙ ap (λ (r : Route). routed r to name) (route_noted old (row_from rows old)) in
+    got
+    ∙ ap (λ (o : Option Route). routed (unwrap_or o Stays) to name) (shown ∙ c.requires.routes old)
+    ∙ ap (λ (r : Route). routed r to name) (route_noted old (row_from rows old)) in
     placed_next (route_of rows) path to c.in_ok-to.to.items at name below name_is next c.loop-at.invariant

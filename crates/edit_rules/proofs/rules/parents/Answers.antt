@@ -56,7 +56,7 @@ returns-in-Some-2 c =
     let none : option_map (ParentNotDirectory row.line) (find (λ p. is_other (sight.at p)) (ancestors (written row))) ≡ None = sym (got ∙ ap (option_map (ParentNotDirectory row.line)) other) in
     let here : Some c.in-Some-2.fault ≡ option_map (MovedParent row.line) (least_line (λ p. first_line (value_at table.movers.claims p)) None (ancestors path)) = search rules in
     let moved : option_map (MovedParent row.line) (least_line (λ p. first_line (value_at table.movers.claims p)) None (ancestors (written row))) ≡ Some c.in-Some-2.fault =
-        sym (here ∙ ap (λ (q : Names). option_map (MovedParent row.line) (least_line (λ p. first_line (value_at table.movers.claims p)) None (ancestors q))) c.requires.path) in
+    sym (here ∙ ap (λ (q : Names). option_map (MovedParent row.line) (least_line (λ p. first_line (value_at table.movers.claims p)) None (ancestors q))) c.requires.path) in
     second_of_three _ _ _ _ c.in-Some-2.fault (elsewhere_rule sight table row c.requires.table c.requires.lines far) none moved
 
 pub returns : goal.returns
@@ -74,10 +74,10 @@ returns c =
     let none : option_map (ParentNotDirectory row.line) (find (λ p. is_other (sight.at p)) (ancestors (written row))) ≡ None = sym (got ∙ ap (option_map (ParentNotDirectory row.line)) other) in
     let here : None ≡ option_map (MovedParent row.line) (least_line (λ p. first_line (value_at table.movers.claims p)) None (ancestors path)) = search rules in
     let moved : option_map (MovedParent row.line) (least_line (λ p. first_line (value_at table.movers.claims p)) None (ancestors (written row))) ≡ None =
-        sym (here ∙ ap (λ (q : Names). option_map (MovedParent row.line) (least_line (λ p. first_line (value_at table.movers.claims p)) None (ancestors q))) c.requires.path) in
+    sym (here ∙ ap (λ (q : Names). option_map (MovedParent row.line) (least_line (λ p. first_line (value_at table.movers.claims p)) None (ancestors q))) c.requires.path) in
     let shown : c.in_ok-taken.taken ≡ option_map (ParentTaken row.line) (least_missing None (map (value_at table.writers.claims) (ancestors path)) xs) = search rules in
     let taken : c.in_ok-taken.taken ≡ option_map (ParentTaken row.line) (least_line (λ p. first_line (value_at table.writers.claims p)) None (filter (λ p. not (is_some (sight.at p))) (ancestors (written row)))) =
-        shown
-        ∙ ap (option_map (ParentTaken row.line)) (least_rule standing c.args.findings.now c.requires.standing (value_at table.writers.claims) path xs found
-        ∙ ap (λ (q : Names). least_line (λ p. first_line (value_at table.writers.claims p)) None (filter (λ p. not (is_some (sight.at p))) (ancestors q))) c.requires.path) in
+    shown
+    ∙ ap (option_map (ParentTaken row.line)) (least_rule standing c.args.findings.now c.requires.standing (value_at table.writers.claims) path xs found
+    ∙ ap (λ (q : Names). least_line (λ p. first_line (value_at table.writers.claims p)) None (filter (λ p. not (is_some (sight.at p))) (ancestors q))) c.requires.path) in
     taken ∙ third_of_three _ _ _ _ (elsewhere_rule sight table row c.requires.table c.requires.lines far) none moved

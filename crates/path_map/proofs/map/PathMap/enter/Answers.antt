@@ -30,14 +30,19 @@ returns-clause-map g c = record {
   where
     longer : length c.link.new.self.below.items ≡ length c.args.self.now.below.items + 1
     longer = (entered g c).longer
+
     old_counted : length c.args.self.now.values.items ≡ length c.args.self.now.below.items
     old_counted = c.requires.map.counted
+
     pushed : c.link.new.self.values.items ≡ c.args.self.now.values.items ++ None ∷ []
     pushed = search rules
+
     both : length (c.args.self.now.values.items ++ None ∷ []) ≡ length c.args.self.now.values.items + 1
     both = length-append c.args.self.now.values.items (None ∷ [])
+
     counted : length c.link.new.self.values.items ≡ length c.link.new.self.below.items
     counted = ap length pushed ∙ omega (arith, both, longer, old_counted)
+
     rooted : 0 < length c.link.new.self.below.items
     rooted = omega (arith, longer)
 
