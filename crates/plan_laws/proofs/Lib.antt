@@ -6,3 +6,5 @@ pub mod Renamed
 pub mod SoFarApart
 pub mod Held
 pub mod Classes
+pub mod AddedSoFar
+pub mod Places

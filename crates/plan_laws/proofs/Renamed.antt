@@ -19,7 +19,7 @@ use Rattle.edit_words.specs.Edited.{Entries, placed_entry, IsPlaced, Came}
 use Rattle.edit_laws.proofs.PlaceLemmas.{IsApart, by_last, place-push, place-apart, View, sent, near, view, push_not_root, routed-sent}
 use Rattle.edit_laws.proofs.PlacedLemmas.{find-placed, source-placed, moved_all}
 
-abbrev as_is : Names → Node → Node
+abbrev pub as_is : Names → Node → Node
 as_is p node = node
 
 -- entries, carried along
