@@ -8,3 +8,4 @@ pub mod Held
 pub mod Classes
 pub mod AddedSoFar
 pub mod Places
+pub mod Turned
