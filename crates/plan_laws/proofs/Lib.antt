@@ -9,3 +9,4 @@ pub mod Classes
 pub mod AddedSoFar
 pub mod Places
 pub mod Turned
+pub mod AtSource
