@@ -10,3 +10,4 @@ pub mod AddedSoFar
 pub mod Places
 pub mod Turned
 pub mod AtSource
+pub mod ParentNow
