@@ -167,6 +167,18 @@ module _ (t : FileTree) (rs : List Row) (set : ArePlannedRows t rs) where
             | inr above ↦ set.fine.unmoved m.0 w.row (sp ++ sn ∷ []) m.1 (well.listed w c) m.2 (source, moves) (above_above (sp ++ sn ∷ []) u (written m.0) above m.3)
           ])
 
+      pub created_same : (later : Spots) (vs : List Waiting) → ((line : ℕ) → (line ≡ w.row.line → ⊥) → (wait_of vs line ≡ wait_of ws line) × (later line ≡ spots line))
+          → (r : Row) → Contains rs r → r.source ≡ None → fresh_at (route_so_far t rs later vs) later (wait_of vs r.line) r ≡ fresh_at (route_so_far t rs spots ws) spots (wait_of ws r.line) r
+      created_same later vs same r listed none =
+          let both = same r.line (λ line.
+          let one : r ≡ w.row = set.are.lines r w.row listed (well.listed w c) line in
+          let clash : true ≡ false = sym (created_far r listed none).3 ∙ ap is_fresh one ∙ old in cc) in
+          ap (λ (x : Option Bool). fresh_at (route_so_far t rs later vs) later x r) both.0 ∙ by_wait (wait_of ws r.line) both.1
+        where
+          by_wait : (o : Option Bool) → later r.line ≡ spots r.line → fresh_at (route_so_far t rs later vs) later o r ≡ fresh_at (route_so_far t rs spots ws) spots o r
+          by_wait None spot = ap (fresh_there (route_so_far t rs later vs) r) none ∙ sym (ap (fresh_there (route_so_far t rs spots ws) r) none)
+          by_wait (Some away) spot = spot
+
       module _ (here : w.is_away ≡ false) where
         pub up_there : place (route_so_far t rs spots ws) sp ≡ sp
         up_there = rests_there t rs set n spots ws well sp sn stands_s (λ a o above is to. well.above_source w (sp ++ sn ∷ []) a o c here source above is to)
@@ -228,17 +240,6 @@ module _ (t : FileTree) (rs : List Row) (set : ArePlannedRows t rs) where
           parent_is_dir = dir;
           from_not_root = source_not_root t rs set w.row (sp ++ sn ∷ []) (well.listed w c) source;
           staging_stays = record { outside = staging_outside; stays = refl; other = no_staging };
-          created_stay = λ r listed none. record { outside = created_outside r listed none; stays = created_same r listed none; other = no_created r listed none };
+          created_stay = λ r listed none. record { outside = created_outside r listed none; stays = created_same later vs same r listed none; other = no_created r listed none };
           missing_stay = λ u has. record { outside = missing_outside u has; stays = refl; other = no_missing u has };
         }
-          where
-            created_same : (r : Row) → Contains rs r → r.source ≡ None → fresh_at (route_so_far t rs later vs) later (wait_of vs r.line) r ≡ fresh_at (route_so_far t rs spots ws) spots (wait_of ws r.line) r
-            created_same r listed none =
-                let both = same r.line (λ line.
-                let one : r ≡ w.row = set.are.lines r w.row listed (well.listed w c) line in
-                let clash : true ≡ false = sym (created_far r listed none).3 ∙ ap is_fresh one ∙ old in cc) in
-                ap (λ (x : Option Bool). fresh_at (route_so_far t rs later vs) later x r) both.0 ∙ by_wait (wait_of ws r.line) both.1
-              where
-                by_wait : (o : Option Bool) → later r.line ≡ spots r.line → fresh_at (route_so_far t rs later vs) later o r ≡ fresh_at (route_so_far t rs spots ws) spots o r
-                by_wait None spot = ap (fresh_there (route_so_far t rs later vs) r) none ∙ sym (ap (fresh_there (route_so_far t rs spots ws) r) none)
-                by_wait (Some away) spot = spot

@@ -11,3 +11,4 @@ pub mod Places
 pub mod Turned
 pub mod AtSource
 pub mod ParentNow
+pub mod Moved
