@@ -12,3 +12,5 @@ pub mod Turned
 pub mod AtSource
 pub mod ParentNow
 pub mod Moved
+pub mod FreshMoved
+pub mod FreshCarried

@@ -46,11 +46,11 @@ pub record StepsOn (t : FileTree) (rs : List Row) (made : List Node) (n : ℕ) (
   pub can : CanRename now from dest
   pub invariant : Invariant t rs made n spots ws (renamed now from dest)
 
-staged_below : (a b : List ℕ) (r : Names) → staged a ≡ staged b ++ r → a ≡ b
+pub staged_below : (a b : List ℕ) (r : Names) → staged a ≡ staged b ++ r → a ≡ b
 staged_below a b [] e = staged_name a b e
 staged_below a b (k ∷ r) e = absurd (let long = ap length e in omega arith)
 
-staging_no_staged : (name : List ℕ) (r : Names) → staging ≡ staged name ++ r → ⊥
+pub staging_no_staged : (name : List ℕ) (r : Names) → staging ≡ staged name ++ r → ⊥
 staging_no_staged name r e = let long = ap length e in omega arith
 
 module _ (t : FileTree) (rs : List Row) (set : ArePlannedRows t rs) (made : List Node) (now : FileTree) (n : ℕ) (spots : Spots) (ws : List Waiting) (inv : Invariant t rs made n spots ws now) where
