@@ -3,7 +3,7 @@ use Rattle.std.proofs.Common.{◌≡◌, ◌≢◌, ◌⊎◌, inl, inr, ℕ, �
 use Rattle.std.specs.Prelude.{Contains}
 use Rattle.std.specs.List.{zip}
 use Rattle.std.specs.FinMap.{get, find}
-use Rattle.std.proofs.lemmas.Bool.{cases_Bool, cond-true, cond-false, and_from, or_cases, not-true, false_from_ne_true, eqb-true}
+use Rattle.std.proofs.lemmas.Bool.{cases_Bool, cond-true, cond-false, and_from, or_cases, not-true, false_from_ne_true, eqb-true, eq-eqb}
 use Rattle.std.proofs.lemmas.Option.{none-some, same_Some}
 use Rattle.std.proofs.lemmas.List.{append-nil}
 use Rattle.dired_text.specs.Paths.{Names, AreNames, path_cmp, parent, rest_below}
@@ -19,7 +19,7 @@ use Rattle.edit_words.specs.Place.{routed, place, IsAbove}
 use Rattle.edit_words.specs.Rows.{row_from, route_to, written, is_elsewhere, is_elsewhere_of, is_same_path, last_name}
 use Rattle.edit_words.specs.Edited.{is_fresh, missing}
 use Rattle.edit_words.specs.Sight.{sight_of}
-use Rattle.edit_laws.proofs.ListLemmas.{contains_none, contains_cases, contains_filter}
+use Rattle.edit_laws.proofs.ListLemmas.{contains_none, contains_cases, contains_filter, filter_parts}
 use Rattle.edit_laws.proofs.PlaceLemmas.{IsApart, IsFirm, by_last, place-push, place-apart, written_at}
 use Rattle.edit_laws.proofs.PlacedLemmas.{find-append_some, tie_itself}
 use Rattle.edit_laws.proofs.PlacedIsTree.{some_of}
@@ -271,3 +271,214 @@ module _ (t : FileTree) (rs : List Row) (set : ArePlannedRows t rs) (made : List
         (λ stands fits at. to_not_root t rs set w.row x listed to (sym at))
         (λ q m before stands fits at. at_class q m (class t rs set aside puts n spots (without w ws) next q m stands)
         (written_at (Stands t) (λ p. route_so_far_by spots (without w ws) p (aside p) (row_from rs p)) fits x firm q m stands at))
+
+  -- or it is a link
+  old_not_there : (p : Names) → Stands t p → place (route_so_far t rs spots ws) p ≡ written w.row → ⊥
+  old_not_there = by_last (λ p. Stands t p → place (route_so_far t rs spots ws) p ≡ written w.row → ⊥)
+      (λ stands at. root_not_written (sym at))
+      (λ p m before stands at. by_kind p m stands at kind)
+    where
+      root_not_written : written w.row ≡ [] → ⊥
+      root_not_written e = by_to w.row.to refl kind
+        where
+          by_to : (o : Option Names) → w.row.to ≡ o → Kind → ⊥
+          by_to (Some x) to k = to_not_root t rs set w.row x listed to (sym (written-to w.row x to) ∙ e)
+          by_to None to (created none x some far) = none-some x (sym to ∙ some)
+          by_to None to (link is sp sn source) = source_not_root t rs set w.row (sp ++ sn ∷ []) listed source (sym (written-none w.row (sp ++ sn ∷ []) source to) ∙ e)
+
+      by_kind : (p : Names) (m : List ℕ) → Stands t (p ++ m ∷ []) → place (route_so_far t rs spots ws) (p ++ m ∷ []) ≡ written w.row → Kind → ⊥
+      by_kind p m stands at (created none x to far) =
+          unwritten (λ q. held_at 0 (held_paths (sight_of t) rs) q) (all_aside t rs set) none x to far (p ++ m ∷ []) stands (old_apart t rs set n spots (without w ws) next)
+          (same_old_place (p ++ m ∷ []) ∙ at ∙ written-to w.row x to)
+      by_kind p m stands at (link is sp sn source) = by_link (cases_Bool (retargets_row (row_from rs (p ++ m ∷ []))))
+        where
+          by_link : (retargets_row (row_from rs (p ++ m ∷ [])) ≡ true) ⊎ (retargets_row (row_from rs (p ++ m ∷ [])) ≡ false) → ⊥
+          by_link (inl yes_it_is) = by_row (row_from rs (p ++ m ∷ [])) refl
+            where
+              by_row : (o : Option Row) → row_from rs (p ++ m ∷ []) ≡ o → ⊥
+              by_row None e = let both : true ≡ false = sym yes_it_is ∙ ap retargets_row e in cc
+              by_row (Some r) e =
+                  let f = row_from-some rs (p ++ m ∷ []) r e in
+                  let is_r : r.retargets ≡ true = sym (ap retargets_row e) ∙ yes_it_is in
+                  by_aside r f.0 is_r f.1 (held_at 0 (held_paths (sight_of t) rs) (p ++ m ∷ [])) refl
+                where
+                  by_aside : (r : Row) → Contains rs r → r.retargets ≡ true → r.source ≡ Some (p ++ m ∷ []) → (h : Option Names) → held_at 0 (held_paths (sight_of t) rs) (p ++ m ∷ []) ≡ h → ⊥
+                  by_aside r c is_r source_r None none = given_held t rs set r (p ++ m ∷ []) c (ap (λ (b : Bool). b || r.removes) is_r) source_r none
+                  by_aside r c is_r source_r (Some path) held =
+                      let number = held_number 0 (held_paths (sight_of t) rs) (p ++ m ∷ []) path held in
+                      let here : place (route_so_far t rs spots ws) (p ++ m ∷ []) ≡ path = place-push (route_so_far t rs spots ws) p m
+                      ∙ ap (λ (h : Option Names). routed (route_so_far_by spots ws (p ++ m ∷ []) h (row_from rs (p ++ m ∷ []))) (place (route_so_far t rs spots ws) p) m) held in
+                      not_staged_x (_ ∷ []) (sym at ∙ here ∙ number.is)
+          by_link (inr isnt) =
+              let differs : w.row.source ≡ Some (p ++ m ∷ []) → ⊥ = λ same.
+              let one : p ++ m ∷ [] ≡ sp ++ sn ∷ [] = same_Some (p ++ m ∷ []) (sp ++ sn ∷ []) (sym same ∙ source) in
+              let both : true ≡ false = sym is ∙ sym (ap retargets_row (ap (row_from rs) one ∙ found is sp sn source)) ∙ isnt in cc in
+              let here : place (new_links_route t rs spots (without w ws)) (p ++ m ∷ []) ≡ written w.row = same_new_place p m stands differs ∙ same_place t rs set n spots ws inv.well p m stands isnt ∙ at in
+              let one : p ++ m ∷ [] ≡ sp ++ sn ∷ [] = place-apart (Stands t) (new_links_route t rs spots (without w ws)) (new_apart t rs set n spots (without w ws) next) (p ++ m ∷ []) (sp ++ sn ∷ []) stands (stands_s is sp sn source)
+              (here ∙ sym (link_goes is sp sn source)) in
+              differs (source ∙ ap (λ (l : Names). Some l) (sym one))
+
+  -- another link
+  module _ (r : Row) (p : Names) (m : List ℕ) (has : Contains rs r) (is_link : r.retargets ≡ true) (at_r : r.source ≡ Some (p ++ m ∷ [])) (other : r.line ≡ w.row.line → ⊥) where
+    stands_r : Stands t (p ++ m ∷ [])
+    stands_r = set.are.standing r (p ++ m ∷ []) has at_r
+
+    differs : w.row.source ≡ Some (p ++ m ∷ []) → ⊥
+    differs same = other (ap (λ (y : Row). y.line) (set.are.sources r w.row (p ++ m ∷ []) has listed at_r same))
+
+    link_stays : place (new_links_route t rs spots (without w ws)) (p ++ m ∷ []) ≡ place (new_links_route t rs spots ws) (p ++ m ∷ [])
+    link_stays = same_new_place p m stands_r differs
+
+    link_not_there : place (new_links_route t rs spots ws) (p ++ m ∷ []) ≡ written w.row → ⊥
+    link_not_there at = by_kind kind
+      where
+        by_kind : Kind → ⊥
+        by_kind (created none x to far) = unwritten (aside_but_links t rs) (links_apart t rs set) none x to far (p ++ m ∷ []) stands_r (new_apart t rs set n spots (without w ws) next) (link_stays ∙ at ∙ written-to w.row x to)
+        by_kind (link is sp sn source) =
+            let one : p ++ m ∷ [] ≡ sp ++ sn ∷ [] = place-apart (Stands t) (new_links_route t rs spots (without w ws)) (new_apart t rs set n spots (without w ws) next) (p ++ m ∷ []) (sp ++ sn ∷ []) stands_r (stands_s is sp sn source)
+            (link_stays ∙ at ∙ sym (link_goes is sp sn source)) in
+            differs (source ∙ ap (λ (l : Names). Some l) (sym one))
+
+    link_outside : rest_below (staged name.0) (place (new_links_route t rs spots ws) (p ++ m ∷ [])) ≡ None
+    link_outside = ap (rest_below (staged name.0)) (sym link_stays)
+        ∙ none_below_spot t rs set (aside_but_links t rs) (links_apart t rs set) n spots (without w ws) next name.0 (λ q there is.
+        by_park q (parked_as t rs set (aside_but_links t rs) (links_apart t rs set) n spots (without w ws) next q name.0 is)) (p ++ m ∷ []) stands_r
+      where
+        by_park : (q : Names) → Parked t rs set (aside_but_links t rs) (links_apart t rs set) n spots (without w ws) next q name.0 → ⊥
+        by_park q (as_held e) = hold_no_spot t rs set (aside_but_links t rs) (links_apart t rs set) n spots ws inv.well q q name.0 e w c away name.1
+        by_park q (as_waiting v cv away_v source at) =
+            let f = filter_parts (λ (y : Waiting). not (y.row.line == w.row.line)) ws v cv in
+            let one : v ≡ w = inv.well.spots_apart v w f.0 c away_v away (at ∙ sym name.1) in
+            let both : true ≡ false = sym f.1 ∙ ap not (eq-eqb v.row.line w.row.line (ap (λ (y : Waiting). y.row.line) one)) in
+            cc
+
+  data FreshOther (r : Row) : Type 0 where
+    it : r ≡ w.row → FreshOther r
+    links : (p : Names) (m : List ℕ) → r.retargets ≡ true → r.source ≡ Some (p ++ m ∷ []) → (r.line ≡ w.row.line → ⊥) → FreshOther r
+    makes : r.source ≡ None → (r.line ≡ w.row.line → ⊥) → FreshOther r
+
+  fresh_other : (r : Row) → Contains rs r → is_fresh r ≡ true → FreshOther r
+  fresh_other r has fresh_r = by_line (cases_Bool (r.line == w.row.line))
+    where
+      no_source : (o : Option Names) → not (is_some o) ≡ true → o ≡ None
+      no_source None e = refl
+      no_source (Some s) e = cc
+
+      by_line : ((r.line == w.row.line) ≡ true) ⊎ ((r.line == w.row.line) ≡ false) → FreshOther r
+      by_line (inl same) = it (set.are.lines r w.row has listed (eqb-true r.line w.row.line same))
+      by_line (inr other) = elim (or_cases r.retargets _ fresh_r) [
+        | inl is ↦ let s = set.links r has is in links (parent s.0) (last_name s.0) is (s.1 ∙ ap (λ (l : Names). Some l) (front_last s.0 (source_not_root t rs set r s.0 has s.1)))
+            (λ same. let both : true ≡ false = sym (eq-eqb r.line w.row.line same) ∙ other in cc)
+        | inr none ↦ makes (no_source r.source none) (λ same. let both : true ≡ false = sym (eq-eqb r.line w.row.line same) ∙ other in cc)
+      ]
+
+  fresh_not_there : (r : Row) → Contains rs r → FreshOther r → fresh_at (route_so_far t rs spots ws) spots (wait_of ws r.line) r ≡ written w.row → ⊥
+  fresh_not_there r has (it same) at = not_staged_x (name.0 ∷ []) (sym at ∙ ap (λ (y : Row). fresh_at (route_so_far t rs spots ws) spots (wait_of ws y.line) y) same ∙ fresh_was)
+  fresh_not_there r has (links p m is at_r other) at = link_not_there r p m has is at_r other (sym (link_at t rs set n spots ws inv.well r p m has is at_r) ∙ at)
+  fresh_not_there r has (makes none other) at = elim (created_at t rs set n spots ws inv.well r has none) [
+    | at_spot v cv away_v row wait is ↦ let n_v = spot_staged t rs set n spots ws inv.well v cv away_v in not_staged_x (n_v.0 ∷ []) (sym at ∙ is ∙ n_v.1)
+    | at_written done is ↦ other (ap (λ (y : Row). y.line) (one_row t rs set.tree set.fine set.are r w.row has listed (sym is ∙ at)))
+  ]
+
+  stays_out : (q : Names) → rest_below (staged name.0) q ≡ None → moved (staged name.0) (written w.row) q ≡ q
+  stays_out q e = moved-by (staged name.0) (written w.row) q None e
+
+  fresh_moves : (r : Row) → Contains rs r → FreshOther r
+      → moved (staged name.0) (written w.row) (fresh_at (route_so_far t rs spots ws) spots (wait_of ws r.line) r) ≡ fresh_at (route_so_far t rs spots (without w ws)) spots (wait_of (without w ws) r.line) r
+  fresh_moves r has (it same) =
+      ap (λ (y : Row). moved (staged name.0) (written w.row) (fresh_at (route_so_far t rs spots ws) spots (wait_of ws y.line) y)) same
+      ∙ ap (moved (staged name.0) (written w.row)) fresh_was
+      ∙ moved-by (staged name.0) (written w.row) (staged name.0) (Some []) (rest_below-same (staged name.0)) ∙ append-nil (written w.row)
+      ∙ sym fresh_goes ∙ ap (λ (y : Row). fresh_at (route_so_far t rs spots (without w ws)) spots (wait_of (without w ws) y.line) y) (sym same)
+  fresh_moves r has (links p m is at_r other) =
+      ap (moved (staged name.0) (written w.row)) (link_at t rs set n spots ws inv.well r p m has is at_r)
+      ∙ stays_out _ (link_outside r p m has is at_r other) ∙ sym (link_stays r p m has is at_r other)
+      ∙ sym (link_at t rs set n spots (without w ws) next r p m has is at_r)
+  fresh_moves r has (makes none other) = stays_out _ (none_below (staged name.0) _ (λ rest e. by_at rest e (created_at t rs set n spots ws inv.well r has none)))
+      ∙ by_wait (wait_of ws r.line) ∙ ap (λ (o : Option Bool). fresh_at (route_so_far t rs spots (without w ws)) spots o r) (sym (wait_of-without ws w r.line other))
+    where
+      by_at : (rest : Names) → fresh_at (route_so_far t rs spots ws) spots (wait_of ws r.line) r ≡ staged name.0 ++ rest → CreatedAt t rs set n spots ws inv.well r → ⊥
+      by_at rest e (at_spot v cv away_v row wait is) =
+          let n_v = spot_staged t rs set n spots ws inv.well v cv away_v in
+          let same : n_v.0 ≡ name.0 = staged_below n_v.0 name.0 rest (sym n_v.1 ∙ sym is ∙ e) in
+          let one : v ≡ w = inv.well.spots_apart v w cv c away_v away (n_v.1 ∙ ap staged same ∙ sym name.1) in
+          other (ap (λ (y : Row). y.line) (sym row) ∙ ap (λ (y : Waiting). y.row.line) one)
+      by_at rest e (at_written done is) =
+          let far = created_far t rs set r has none in
+          not_reserved t rs set r far.0 (name.0 ∷ rest) has far.1 (sym (written-to r far.0 far.1) ∙ sym is ∙ e)
+
+      by_wait : (o : Option Bool) → fresh_at (route_so_far t rs spots ws) spots o r ≡ fresh_at (route_so_far t rs spots (without w ws)) spots o r
+      by_wait None = ap (fresh_there (route_so_far t rs spots ws) r) none ∙ sym (ap (fresh_there (route_so_far t rs spots (without w ws)) r) none)
+      by_wait (Some b) = refl
+
+  carries_along : carried_along (staged name.0) (written w.row) (added_so_far t rs made spots ws) ≡ added_so_far t rs made spots (without w ws)
+  carries_along = along t rs made (staged name.0) (written w.row) spots spots ws (without w ws)
+      (stays_out staging (none_below (staged name.0) staging (staging_no_staged name.0)))
+      (λ r has fresh_r. fresh_moves r has (fresh_other r has fresh_r))
+      (λ u has. stays_out u (none_below (staged name.0) u (λ rest e. missing_not_staged t rs set u (name.0 ∷ rest) has e)))
+
+  not_added : (node : Node) → IsAdded t rs made spots ws (written w.row) node → ⊥
+  not_added node (as_staging same kind) = not_staged_x [] (same ∙ sym (append-nil staging))
+  not_added node (as_fresh r has fresh_r at) = fresh_not_there r has (fresh_other r has fresh_r) at
+  not_added node (as_missing has kind) = let m = missing_parts t rs (written w.row) has in absent_not _ m.4 (set.fine.untaken m.0 w.row m.1 listed m.2 m.3)
+
+  free : IsAbsent now (written w.row)
+  free = by_node (get now (written w.row)) refl
+    where
+      by_node : (o : Option Node) → get now (written w.row) ≡ o → get now (written w.row) ≡ None
+      by_node None e = e
+      by_node (Some node) e = absurd (elim (inv.shown.only (written w.row) node e) [
+        | inl added ↦ let f = some_of (find path_cmp (written w.row) (added_so_far t rs made spots ws)) added in not_added f.0 (added_as t rs made spots ws (written w.row) f.0 f.1)
+        | inr came ↦ old_not_there came.path (ap is_some came.stood) came.here
+      ])
+
+  stands_now : Stands now (staged name.0)
+  stands_now = elim (cases_Bool (tie (staged name.0) staging)) [
+    | inl same ↦ ap is_some (inv.shown.added_stand (staged name.0) _ (cond-true (tie (staged name.0) staging) _ _ same))
+    | inr other ↦
+        let z = zip_finds (λ (r : Row). fresh_at (route_so_far t rs spots ws) spots (wait_of ws r.line) r) (filter is_fresh rs) made w.row long (contains_filter is_fresh rs w.row listed fresh) in
+        let at : find path_cmp (staged name.0) (zip (fresh_so_far t rs spots ws) made) ≡ Some z.0 = ap (λ (l : Names). find path_cmp l (zip (fresh_so_far t rs spots ws) made)) (sym fresh_was) ∙ z.1 in
+        ap is_some (inv.shown.added_stand (staged name.0) z.0 (cond-false (tie (staged name.0) staging) _ _ other ∙ find-append_some (staged name.0) (zip (fresh_so_far t rs spots ws) made) _ z.0 at))
+  ]
+
+  parent_dir : IsDir now (parent (written w.row))
+  parent_dir = by_kind kind
+    where
+      by_kind : Kind → IsDir now (parent (written w.row))
+      by_kind (created none x to far) = subst (λ (l : Names). IsDir now (parent l)) (sym (written-to w.row x to)) (parent_far t rs set made now n spots ws inv.well inv.shown w.row x listed to far)
+      by_kind (link is sp sn source) = by_to w.row.to refl
+        where
+          sp_is : is_elsewhere w.row ≡ false → IsDir now sp
+          sp_is near = up_is_dir t rs set made now n spots ws inv.well inv.shown sp sn (stands_s is sp sn source) (up_rests is sp sn source near) (λ o found moves. still_away near sp sn source sp o (sn, [], refl) found moves)
+
+          by_to : (o : Option Names) → w.row.to ≡ o → IsDir now (parent (written w.row))
+          by_to None to = subst (IsDir now) (sym (ap parent (written-none w.row (sp ++ sn ∷ []) source to) ∙ parent-push sp sn)) (sp_is (ap (is_elsewhere_of w.row.source) to))
+          by_to (Some x) to = elim (cases_Bool (is_elsewhere w.row)) [
+            | inl far ↦ subst (λ (l : Names). IsDir now (parent l)) (sym (written-to w.row x to)) (parent_far t rs set made now n spots ws inv.well inv.shown w.row x listed to far)
+            | inr near ↦ subst (IsDir now) (sym (ap parent (written-to w.row x to ∙ in_place_at w.row (sp ++ sn ∷ []) x (source_not_root t rs set w.row (sp ++ sn ∷ []) listed source) (to_not_root t rs set w.row x listed to) source to near)
+                ∙ parent-push (parent (sp ++ sn ∷ [])) (last_name x) ∙ parent-push sp sn)) (sp_is near)
+          ]
+
+  can : CanRename now (staged name.0) (written w.row)
+  can = record {
+    named = named;
+    stands = stands_now;
+    not_root = λ none. let size = ap length none in omega arith;
+    absent = free;
+    parent_is_dir = parent_dir;
+    apart = none_below (staged name.0) (written w.row) (λ r e. not_staged_x (name.0 ∷ r) e);
+  }
+
+  pub fresh_turns : StepsOn t rs made n spots (without w ws) now (spots w.row.line) (written w.row)
+  fresh_turns = subst (λ (from : Names). StepsOn t rs made n spots (without w ws) now from (written w.row)) (sym name.1) (record {
+    can = can;
+    invariant = record {
+      tree = renamed_tree now (staged name.0) (written w.row) inv.tree can;
+      shown = alike_placed (carried_along (staged name.0) (written w.row) (added_so_far t rs made spots ws)) (added_so_far t rs made spots (without w ws))
+          (λ p. moved (staged name.0) (written w.row) (place (route_so_far t rs spots ws) p)) (place (route_so_far t rs spots (without w ws))) same_node t (renamed now (staged name.0) (written w.row))
+          (λ q. ap (find path_cmp q) carries_along)
+          (λ p stands. stays_out _ (old_outside p stands) ∙ sym (same_old_place p))
+          (placed_renamed now (staged name.0) (written w.row) inv.tree can (added_so_far t rs made spots ws) (λ p. true) (place (route_so_far t rs spots ws)) same_node t inv.shown);
+      well = next;
+    };
+  })
