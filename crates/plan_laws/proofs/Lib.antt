@@ -14,3 +14,5 @@ pub mod ParentNow
 pub mod Moved
 pub mod FreshMoved
 pub mod FreshCarried
+pub mod EntryNames
+pub mod MovesLead

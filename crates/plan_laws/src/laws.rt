@@ -1,5 +1,10 @@
 // Laws over the definitions alone.
-ghost use Rattle.plan_laws.specs.Laws.{WaitsWellAtFirst, WaitsWellAfterCarry, WaitsWellAfterKnot};
+ghost use Rattle.plan_laws.specs.Laws.{
+  MovesLeadOn,
+  WaitsWellAfterCarry,
+  WaitsWellAfterKnot,
+  WaitsWellAtFirst,
+};
 
 /// Between two moves of changes that can be made, whatever still waits below a path keeps that path at its place, and each change
 /// that is away has a spot of its own in the staging directory: so at first, after a ready change is carried out, and after one
@@ -8,4 +13,11 @@ pub fn moves_keep_waiting_well()
     ensures first { WaitsWellAtFirst }
     ensures carried { WaitsWellAfterCarry }
     ensures put_aside { WaitsWellAfterKnot }
+{}
+
+/// From a tree between two moves each further move can be done where the ones before it have been, in whatever order ready changes
+/// are carried out: its source stands, nothing stands at its new path, and above that is a directory. Behind each the tree is the
+/// old one, placed by what was done so far, and behind the last no change waits.
+pub fn moves_lead_on()
+    ensures { MovesLeadOn }
 {}
