@@ -1,13 +1,16 @@
 -- The moves lead from the tree in which all changes wait to one in which none does.
-use Rattle.std.proofs.Common.{◌≡◌, ◌⊎◌, inl, inr, ℕ, ◌+◌, ◌<◌, ◌≤◌, ◌^◌, Bool, true, false, not, ◌||◌, List, [], ◌∷◌, ◌++◌, filter, length, refl, sym, ◌∙◌, ap, subst, arith, Option, Some, None, is_some, if◌then◌else◌}
+use Rattle.std.proofs.Common.{◌≡◌, ◌≢◌, ◌⊎◌, inl, inr, ℕ, ◌+◌, ◌<◌, ◌≤◌, ◌^◌, Bool, true, false, not, ◌||◌, List, [], ◌∷◌, ◌++◌, filter, length, refl, sym, ◌∙◌, ap, subst, arith, Option, Some, None, is_some, if◌then◌else◌}
 use Rattle.std.specs.Prelude.{Contains, unwrap_or}
-use Rattle.std.proofs.lemmas.Bool.{cond-true, cond-false, cases_Bool, or_cases}
+use Rattle.std.proofs.lemmas.Bool.{cond-true, cond-false, cases_Bool, or_cases, or_right}
 use Rattle.std.proofs.lemmas.Option.{none-some}
 use Rattle.dired_text.specs.Paths.{Names, AreNames, parent}
 use Rattle.commit_steps.specs.declared.step.Step.{Step}
-use Rattle.commit_steps.specs.Staging.{staged, temporary}
+use Rattle.commit_steps.specs.declared.step.Step.TheVariants.{Rename}
+use Rattle.commit_steps.specs.Staging.{staging, staged, temporary, fresh_name}
+use Rattle.commit_steps.specs.Steps.{IsOutside, IsStepPath, IsLawfulStep}
 use Rattle.tree_core.specs.declared.node.Node.{Node}
-use Rattle.tree_core.specs.FileTree.{FileTree, renamed}
+use Rattle.tree_core.specs.FileTree.{FileTree, Stands, CanRename, renamed}
+use Rattle.tree_core.proofs.TreeLemmas.{above_stands, absent_not}
 use Rattle.edit_words.specs.declared.row.Row.{Row}
 use Rattle.edit_words.specs.Rows.{written, last_name}
 use Rattle.edit_words.specs.Edited.{is_fresh}
@@ -15,16 +18,21 @@ use Rattle.edit_laws.proofs.PlacedIsTree.{some_of}
 use Rattle.edit_laws.proofs.RowLemmas.{written-to, written-none, front_last}
 use Rattle.plan_moves.specs.Waiting.{Waiting, NoneReady, deepest, at_sources, is_ready, put_away, without}
 use Rattle.plan_moves.specs.Moves.{Moves, Spots, over, carry, knot, spot_of, with_spot}
-use Rattle.plan_moves.specs.SoFar.{Invariant}
+use Rattle.plan_moves.specs.SoFar.{Invariant, IsSpot, put_aside, was_made}
 use Rattle.plan_moves.proofs.Number.{none_left, deepest-contains}
 use Rattle.plan_moves.proofs.AtMost.{deepest-here, put_one, here_are}
 use Rattle.plan_laws.specs.Laws.{HaveNames, NoneWaits, LeadOn}
 use Rattle.plan_laws.proofs.Setting.{ArePlannedRows}
 use Rattle.plan_laws.proofs.EntryNames.{temporary_names}
-use Rattle.plan_laws.proofs.SoFarApart.{source_not_root}
+use Rattle.plan_laws.proofs.SoFarApart.{source_not_root, source_not_reserved, to_not_root, not_reserved}
+use Rattle.plan_laws.proofs.AtSource.{none_below}
 use Rattle.plan_laws.proofs.WellLemmas.{have_sources}
 use Rattle.plan_laws.proofs.Moved.{StepsOn, knot_turns, source_turns, spot_turns}
 use Rattle.plan_laws.proofs.FreshCarried.{fresh_turns}
+
+outside_path : (p : Names) → p ≢ [] → ((rest : Names) → p ≡ staging ++ rest → ⊥) → IsOutside p
+outside_path [] root staged_too = root refl
+outside_path (x ∷ p) root staged_too = λ same. staged_too p (ap (λ (l : List ℕ). l ∷ p) same)
 
 module _ (t : FileTree) (rs : List Row) (set : ArePlannedRows t rs) (names : HaveNames rs) (made : List Node) (long : length made ≡ length (filter is_fresh rs)) where
   written_names : (r : Row) → Contains rs r → AreNames (written r)
@@ -90,11 +98,55 @@ module _ (t : FileTree) (rs : List Row) (set : ArePlannedRows t rs) (names : Hav
         (knot_turns t rs set made now n spots ws inv d no_one is (parent s.0) (last_name s.0) source
         (temporary_names n (let room : n + length (at_sources ws) ≤ length rs = inv.well.room in let few : length rs ≤ 262144 = set.few in omega arith)))
 
+    -- each of them is lawful
+    spot_path : (path : Names) → IsSpot n path → IsStepPath path
+    spot_path path (put_aside m less is) = inr (record { name = temporary m; is = is; entry = record {
+      number = m;
+      small = let less : m < n = less in let room : n + length (at_sources ws) ≤ length rs = inv.well.room in let few : length rs ≤ 262144 = set.few in omega arith;
+      named = inl refl;
+    } })
+    spot_path path (was_made m small is) = inr (record { name = fresh_name m; is = is; entry = record { number = m; small = small; named = inr (inr refl) } })
+
+    starts : (w : Waiting) → Contains ws w → IsStepPath (spot_of spots w)
+    starts w c = by_away (cases_Bool w.is_away)
+      where
+        by_source : w.is_away ≡ false → (o : Option Names) → w.row.source ≡ o → IsStepPath (spot_of spots w)
+        by_source here None none =
+            let fresh : is_fresh w.row ≡ true = or_right w.row.retargets _ (ap (λ (o : Option Names). not (is_some o)) none) in
+            let both : true ≡ false = sym (inv.well.fresh_are_away w c fresh) ∙ here in
+            absurd cc
+        by_source here (Some s) source = subst IsStepPath (sym (from_source spots w s here source)) (inl (outside_path s (source_not_root t rs set w.row s (inv.well.listed w c) source) (λ r is. source_not_reserved t rs set w.row s r (inv.well.listed w c) source is)))
+
+        by_away : (w.is_away ≡ true) ⊎ (w.is_away ≡ false) → IsStepPath (spot_of spots w)
+        by_away (inl away) = subst IsStepPath (sym (from_spot spots w away)) (spot_path (spots w.row.line) (inv.well.spots_staged w c away))
+        by_away (inr here) = by_source here w.row.source refl
+
+    written_path : (r : Row) → Contains rs r → IsStepPath (written r)
+    written_path r listed = by_to r.to refl
+      where
+        by_source : r.to ≡ None → (o : Option Names) → r.source ≡ o → IsStepPath (written r)
+        by_source to None none = let f = set.are.created r listed none in absurd (none-some f.0 (sym to ∙ f.1))
+        by_source to (Some s) source = subst IsStepPath (sym (written-none r s source to)) (inl (outside_path s (source_not_root t rs set r s listed source) (λ rest is. source_not_reserved t rs set r s rest listed source is)))
+
+        by_to : (o : Option Names) → r.to ≡ o → IsStepPath (written r)
+        by_to (Some x) to = subst IsStepPath (sym (written-to r x to)) (inl (outside_path x (to_not_root t rs set r x listed to) (λ rest is. not_reserved t rs set r x rest listed to is)))
+        by_to None to = by_source to r.source refl
+
+    lawful : (from dest : Names) → IsStepPath from → IsStepPath dest → CanRename now from dest → IsLawfulStep (Rename from dest)
+    lawful from dest a b can = (a, b, can.apart, none_below dest from (λ r is. absent_not _ can.absent (above_stands now inv.tree r dest (subst (Stands now) is can.stands))))
+
+    next_path : IsStepPath (staged (temporary n))
+    next_path = inr (record { name = temporary n; is = refl; entry = record {
+      number = n;
+      small = let room : n + length (at_sources ws) ≤ length rs = inv.well.room in let few : length rs ≤ 262144 = set.few in omega arith;
+      named = inl refl;
+    } })
+
   pub moves_lead : (n : ℕ) (spots : Spots) (ws : List Waiting) (now : FileTree) (steps : List Step) → Invariant t rs made n spots ws now → Moves n spots ws steps → LeadOn (NoneWaits t rs made) now steps
   moves_lead n spots ws now steps inv (over _ _ _ no_one end) = record { number = n; spots = spots; invariant = subst (λ (l : List Waiting). Invariant t rs made n spots l now) (none_left ws no_one end) inv }
   moves_lead n spots ws now steps inv (carry _ _ _ w rest c ready moves) =
       let on = carried n spots ws now inv w c ready in
-      (on.can, moves_lead n spots (without w ws) (renamed now (spot_of spots w) (written w.row)) rest on.invariant moves)
+      (on.can, lawful n spots ws now inv (spot_of spots w) (written w.row) (starts n spots ws now inv w c) (written_path n spots ws now inv w.row (inv.well.listed w c)) on.can, moves_lead n spots (without w ws) (renamed now (spot_of spots w) (written w.row)) rest on.invariant moves)
   moves_lead n spots ws now steps inv (knot _ _ _ d rest no_one is moves) =
       let on = knotted n spots ws now inv d no_one is in
-      (on.can, moves_lead (n + 1) (with_spot spots d.row.line (staged (temporary n))) (put_away d ws) (renamed now (spot_of spots d) (staged (temporary n))) rest on.invariant moves)
+      (on.can, lawful n spots ws now inv (spot_of spots d) (staged (temporary n)) (starts n spots ws now inv d (deepest-contains ws d is)) (next_path n spots ws now inv) on.can, moves_lead (n + 1) (with_spot spots d.row.line (staged (temporary n))) (put_away d ws) (renamed now (spot_of spots d) (staged (temporary n))) rest on.invariant moves)

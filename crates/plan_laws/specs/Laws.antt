@@ -3,6 +3,7 @@ use Rattle.std.specs.Prelude.{◌≡◌, ◌⊎◌, ℕ, ◌+◌, true, List, []
 use Rattle.dired_text.specs.Paths.{Names, AreNames}
 use Rattle.commit_steps.specs.declared.step.Step.{Step}
 use Rattle.commit_steps.specs.declared.step.Step.TheVariants.{MakeDir, Rename, Mode}
+use Rattle.commit_steps.specs.Steps.{IsLawfulStep}
 use Rattle.commit_steps.specs.Staging.{staged, temporary}
 use Rattle.tree_core.specs.FileTree.{FileTree, IsTree, IsFile, CanRename, renamed}
 use Rattle.tree_core.specs.declared.node.Node.{Node}
@@ -38,10 +39,10 @@ WaitsWellAfterKnot =
 abbrev pub HaveNames : List Row → Type 0
 HaveNames rs = (r : Row) (p : Names) → Contains rs r → (r.source ≡ Some p) ⊎ (r.to ≡ Some p) → AreNames p
 
--- Each step is a rename that can be done where the ones before it have been, and the last tree has P.
+-- Each step is a rename that a journal can spell, and that can be done where the ones before it have been. The last tree has P.
 abbrev pub LeadOn : (FileTree → Type 0) → FileTree → List Step → Type 0
 LeadOn P t [] = P t
-LeadOn P t (Rename from to ∷ steps) = CanRename t from to × LeadOn P (renamed t from to) steps
+LeadOn P t (Rename from to ∷ steps) = CanRename t from to × IsLawfulStep (Rename from to) × LeadOn P (renamed t from to) steps
 LeadOn P t (MakeDir p ∷ steps) = ⊥
 LeadOn P t (Mode p old new ∷ steps) = ⊥
 

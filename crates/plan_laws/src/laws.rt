@@ -16,8 +16,8 @@ pub fn moves_keep_waiting_well()
 {}
 
 /// From a tree between two moves each further move can be done where the ones before it have been, in whatever order ready changes
-/// are carried out: its source stands, nothing stands at its new path, and above that is a directory. Behind each the tree is the
-/// old one, placed by what was done so far, and behind the last no change waits.
+/// are carried out: its source stands, nothing stands at its new path, and above that is a directory. Each can be spelled by a
+/// journal. Behind each the tree is the old one, placed by what was done so far, and behind the last no change waits.
 pub fn moves_lead_on()
     ensures { MovesLeadOn }
 {}
