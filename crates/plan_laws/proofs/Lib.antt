@@ -16,3 +16,4 @@ pub mod FreshMoved
 pub mod FreshCarried
 pub mod EntryNames
 pub mod MovesLead
+pub mod HeldOnce
