@@ -39,7 +39,7 @@ use Rattle.plan_laws.proofs.AddedSoFar.{staging_added}
 use Rattle.plan_laws.proofs.Places.{aside_but_links, new_links_route, all_aside, links_apart, edit_not_held, rests_there}
 use Rattle.plan_laws.proofs.Turned.{StaysThere, IsTurn}
 
-front_of_staging : (s r : Names) → staging ≡ s ++ r → (s ≡ []) ⊎ (s ≡ staging)
+pub front_of_staging : (s r : Names) → staging ≡ s ++ r → (s ≡ []) ⊎ (s ≡ staging)
 front_of_staging [] r e = inl refl
 front_of_staging (x ∷ []) r e = inr cc
 front_of_staging (x ∷ y ∷ s) r e = absurd (let long = ap length e in let more = length-append s r in omega arith)

@@ -17,3 +17,4 @@ pub mod FreshCarried
 pub mod EntryNames
 pub mod MovesLead
 pub mod HeldOnce
+pub mod HoldsLead

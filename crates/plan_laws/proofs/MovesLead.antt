@@ -30,7 +30,7 @@ use Rattle.plan_laws.proofs.WellLemmas.{have_sources}
 use Rattle.plan_laws.proofs.Moved.{StepsOn, knot_turns, source_turns, spot_turns}
 use Rattle.plan_laws.proofs.FreshCarried.{fresh_turns}
 
-outside_path : (p : Names) → p ≢ [] → ((rest : Names) → p ≡ staging ++ rest → ⊥) → IsOutside p
+pub outside_path : (p : Names) → p ≢ [] → ((rest : Names) → p ≡ staging ++ rest → ⊥) → IsOutside p
 outside_path [] root staged_too = root refl
 outside_path (x ∷ p) root staged_too = λ same. staged_too p (ap (λ (l : List ℕ). l ∷ p) same)
 

@@ -1,20 +1,27 @@
 -- Laws of plans: what holds between two moves, and where they lead.
-use Rattle.std.specs.Prelude.{◌≡◌, ◌⊎◌, ℕ, ◌+◌, true, List, [], ◌∷◌, filter, length, Some, Contains}
+use Rattle.std.specs.Prelude.{◌≡◌, ◌⊎◌, ℕ, ◌+◌, true, List, [], ◌∷◌, map, filter, length, Option, Some, None, Contains}
+use Rattle.std.specs.List.{zip}
 use Rattle.dired_text.specs.Paths.{Names, AreNames}
 use Rattle.commit_steps.specs.declared.step.Step.{Step}
 use Rattle.commit_steps.specs.declared.step.Step.TheVariants.{MakeDir, Rename, Mode}
 use Rattle.commit_steps.specs.Steps.{IsLawfulStep}
-use Rattle.commit_steps.specs.Staging.{staged, temporary}
+use Rattle.commit_steps.specs.Staging.{staging, staged, temporary}
 use Rattle.tree_core.specs.FileTree.{FileTree, IsTree, IsFile, CanRename, renamed}
 use Rattle.tree_core.specs.declared.node.Node.{Node}
+use Rattle.tree_core.specs.declared.node.Node.TheVariants.{Dir}
 use Rattle.tree_core.specs.declared.changes.Changes.{Changes}
 use Rattle.edit_words.specs.declared.row.Row.{Row}
+use Rattle.edit_words.specs.declared.row.Route.{Route}
+use Rattle.edit_words.specs.declared.row.Route.TheVariants.{Stays, Sent}
+use Rattle.edit_words.specs.Place.{place}
 use Rattle.edit_words.specs.Rows.{rows}
-use Rattle.edit_words.specs.Edited.{is_fresh}
+use Rattle.edit_words.specs.Edited.{Entries, IsPlaced, is_fresh}
 use Rattle.edit_words.specs.WellFormed.{IsWellFormed, CanBeAsked}
 use Rattle.plan_moves.specs.Waiting.{Waiting, NoneReady, deepest, is_ready, put_away, waiting, without}
 use Rattle.plan_moves.specs.Moves.{Moves, Spots, fresh_spots, with_spot}
-use Rattle.plan_moves.specs.SoFar.{IsWaitingWell, Invariant}
+use Rattle.edit_words.specs.Sight.{sight_of}
+use Rattle.plan_moves.specs.Plan.{held_paths, holds}
+use Rattle.plan_moves.specs.SoFar.{IsWaitingWell, Invariant, held_at, same_node}
 
 -- changes that can be asked for, and are well-formed in a tree
 pub record ArePlanned (t : FileTree) (changes : Changes) : Type 0 where
@@ -57,3 +64,26 @@ abbrev pub MovesLeadOn : Type 0
 MovesLeadOn =
     (t now : FileTree) (changes : Changes) (made : List Node) (n : ℕ) (spots : Spots) (ws : List Waiting) (steps : List Step) → ArePlanned t changes → HaveNames (rows changes)
     → length made ≡ length (filter is_fresh (rows changes)) → Invariant t (rows changes) made n spots ws now → Moves n spots ws steps → LeadOn (NoneWaits t (rows changes) made) now steps
+
+-- where paths go when these are put aside, in order
+abbrev pub aside_route_by : Option Names → Route
+aside_route_by None = Stays
+aside_route_by (Some path) = Sent path
+
+abbrev pub aside_route : List Names → Names → Route
+aside_route hs p = aside_route_by (held_at 0 hs p)
+
+-- the staging directory and the entries that were made, as a plan finds them
+abbrev pub made_at_first : List Row → List Node → Entries
+made_at_first rs made = (staging, Dir 0o700) ∷ zip (map (λ (r : Row). fresh_spots 0 rs r.line) (filter is_fresh rs)) made
+
+-- the old tree with these put aside
+pub record IsPutAside (t : FileTree) (rs : List Row) (made : List Node) (hs : List Names) (now : FileTree) : Type 0 where
+  pub tree : IsTree now
+  pub shown : IsPlaced (made_at_first rs made) (λ p. true) (place (aside_route hs)) same_node t now
+
+-- What changes replace or give up can be put aside, one after another.
+abbrev pub HoldsLeadOn : Type 0
+HoldsLeadOn =
+    (t now : FileTree) (changes : Changes) (made : List Node) → ArePlanned t changes → IsPutAside t (rows changes) made [] now
+    → LeadOn (IsPutAside t (rows changes) made (held_paths (sight_of t) (rows changes))) now (holds 0 (held_paths (sight_of t) (rows changes)))

@@ -1,5 +1,6 @@
 // Laws over the definitions alone.
 ghost use Rattle.plan_laws.specs.Laws.{
+  HoldsLeadOn,
   MovesLeadOn,
   WaitsWellAfterCarry,
   WaitsWellAfterKnot,
@@ -20,4 +21,10 @@ pub fn moves_keep_waiting_well()
 /// journal. Behind each the tree is the old one, placed by what was done so far, and behind the last no change waits.
 pub fn moves_lead_on()
     ensures { MovesLeadOn }
+{}
+
+/// What changes replace or give up can be put aside, one after another, and behind that the old tree stands with these entries in the
+/// staging directory.
+pub fn holds_lead_on()
+    ensures { HoldsLeadOn }
 {}
