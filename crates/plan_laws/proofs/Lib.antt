@@ -18,3 +18,4 @@ pub mod EntryNames
 pub mod MovesLead
 pub mod HeldOnce
 pub mod HoldsLead
+pub mod FirstLemmas

@@ -1,5 +1,5 @@
 -- Laws of plans: what holds between two moves, and where they lead.
-use Rattle.std.specs.Prelude.{◌≡◌, ◌⊎◌, ℕ, ◌+◌, true, List, [], ◌∷◌, map, filter, length, Option, Some, None, Contains}
+use Rattle.std.specs.Prelude.{◌≡◌, ◌⊎◌, ℕ, ◌+◌, true, List, [], ◌∷◌, ◌++◌, map, filter, length, Option, Some, None, Contains}
 use Rattle.std.specs.List.{zip}
 use Rattle.dired_text.specs.Paths.{Names, AreNames}
 use Rattle.commit_steps.specs.declared.step.Step.{Step}
@@ -15,7 +15,7 @@ use Rattle.edit_words.specs.declared.row.Route.{Route}
 use Rattle.edit_words.specs.declared.row.Route.TheVariants.{Stays, Sent}
 use Rattle.edit_words.specs.Place.{place}
 use Rattle.edit_words.specs.Rows.{rows}
-use Rattle.edit_words.specs.Edited.{Entries, IsPlaced, is_fresh}
+use Rattle.edit_words.specs.Edited.{Entries, IsPlaced, is_fresh, missing}
 use Rattle.edit_words.specs.WellFormed.{IsWellFormed, CanBeAsked}
 use Rattle.plan_moves.specs.Waiting.{Waiting, NoneReady, deepest, is_ready, put_away, waiting, without}
 use Rattle.plan_moves.specs.Moves.{Moves, Spots, fresh_spots, with_spot}
@@ -87,3 +87,10 @@ abbrev pub HoldsLeadOn : Type 0
 HoldsLeadOn =
     (t now : FileTree) (changes : Changes) (made : List Node) → ArePlanned t changes → IsPutAside t (rows changes) made [] now
     → LeadOn (IsPutAside t (rows changes) made (held_paths (sight_of t) (rows changes))) now (holds 0 (held_paths (sight_of t) (rows changes)))
+
+-- Where these are put aside and the missing directories are made, all changes wait, as at first.
+abbrev pub AllWaitAtFirst : Type 0
+AllWaitAtFirst =
+    (t now : FileTree) (changes : Changes) (made : List Node) → ArePlanned t changes → IsTree now
+    → IsPlaced (made_at_first (rows changes) made ++ map (λ (p : Names). (p, Dir 0o755)) (missing t (rows changes))) (λ p. true) (place (aside_route (held_paths (sight_of t) (rows changes)))) same_node t now
+    → Invariant t (rows changes) made 0 (fresh_spots 0 (rows changes)) (waiting (rows changes)) now

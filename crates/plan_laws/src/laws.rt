@@ -1,5 +1,6 @@
 // Laws over the definitions alone.
 ghost use Rattle.plan_laws.specs.Laws.{
+  AllWaitAtFirst,
   HoldsLeadOn,
   MovesLeadOn,
   WaitsWellAfterCarry,
@@ -27,4 +28,10 @@ pub fn moves_lead_on()
 /// staging directory.
 pub fn holds_lead_on()
     ensures { HoldsLeadOn }
+{}
+
+/// Where what is replaced or given up stands in the staging directory, and the missing directories were made, all changes wait: what
+/// holds between two moves holds there.
+pub fn all_wait_at_first()
+    ensures { AllWaitAtFirst }
 {}
