@@ -1,5 +1,5 @@
 -- What was added to the tree so far: found there, and carried along by a rename.
-use Rattle.std.proofs.Common.{◌≡◌, ◌⊎◌, inl, inr, ℕ, Bool, true, false, cond, List, [], ◌∷◌, ◌++◌, map, filter, refl, sym, ◌∙◌, ap, subst, Option, Some, None, is_some, IsTrue}
+use Rattle.std.proofs.Common.{◌≡◌, ◌⊎◌, inl, inr, true, false, List, [], ◌∷◌, ◌++◌, map, filter, refl, sym, ◌∙◌, ap, subst, Option, Some, None}
 use Rattle.std.specs.Prelude.{Contains}
 use Rattle.std.specs.List.{zip}
 use Rattle.std.specs.FinMap.{find}
@@ -13,7 +13,6 @@ use Rattle.tree_core.specs.declared.node.Node.TheVariants.{Dir}
 use Rattle.tree_core.specs.FileTree.{FileTree, moved}
 use Rattle.tree_core.proofs.TreeLemmas.{tie}
 use Rattle.edit_words.specs.declared.row.Row.{Row}
-use Rattle.edit_words.specs.declared.row.Route.{Route}
 use Rattle.edit_words.specs.Edited.{Entries, placed_entry, is_fresh, missing}
 use Rattle.edit_laws.proofs.ListLemmas.{contains_head, contains_tail, contains_none, contains_cases, filter_parts, map_parts}
 use Rattle.edit_laws.proofs.PlacedLemmas.{find-append_some, find-append_none}

@@ -1,21 +1,17 @@
 -- What waits at its source is there, and nothing else is below it.
-use Rattle.std.proofs.Common.{◌≡◌, ◌≢◌, ◌⊎◌, inl, inr, ℕ, ◌+◌, ◌<◌, ◌≤◌, ◌^◌, ◌==◌, Bool, true, false, not, ◌&&◌, ◌||◌, List, [], ◌∷◌, ◌++◌, length, refl, sym, ◌∙◌, ap, subst, arith, append_assoc, length-append, Option, Some, None, is_some, IsTrue}
+use Rattle.std.proofs.Common.{◌≡◌, ◌≢◌, ◌⊎◌, inl, inr, ℕ, ◌+◌, ◌≤◌, Bool, true, false, not, ◌&&◌, ◌||◌, List, [], ◌∷◌, ◌++◌, length, refl, sym, ◌∙◌, ap, subst, arith, append_assoc, length-append, Option, Some, None, is_some}
 use Rattle.std.specs.Prelude.{Contains}
-use Rattle.std.specs.List.{list_any}
-use Rattle.std.specs.FinMap.{get, find}
-use Rattle.std.proofs.lemmas.Bool.{cases_Bool, or_cases, or_parts, and_from, not-true, false_from_ne_true, cond-true, eq-eqb}
-use Rattle.std.proofs.lemmas.Option.{none-some, same_Some}
+use Rattle.std.proofs.lemmas.Bool.{or_cases, and_from, not-true}
+use Rattle.std.proofs.lemmas.Option.{same_Some}
 use Rattle.std.proofs.lemmas.List.{append-nil}
 use Rattle.dired_text.specs.Paths.{Names, AreNames, parent, rest_below}
-use Rattle.dired_text.proofs.PathLemmas.{rest_below-some, parent-push}
+use Rattle.dired_text.proofs.PathLemmas.{rest_below-some}
 use Rattle.commit_steps.specs.Staging.{staging, staged, temporary}
-use Rattle.tree_core.specs.declared.node.Node.{Node}
-use Rattle.tree_core.specs.declared.node.Node.TheVariants.{Dir}
-use Rattle.tree_core.specs.FileTree.{FileTree, IsTree, IsAbsent, IsDir, Stands, is_dir_node}
-use Rattle.tree_core.proofs.TreeLemmas.{absent_not, above_stands}
+use Rattle.tree_core.specs.FileTree.{FileTree, IsDir, Stands}
+use Rattle.tree_core.proofs.TreeLemmas.{absent_not}
 use Rattle.edit_words.specs.declared.row.Row.{Row}
 use Rattle.edit_words.specs.declared.row.Route.{Route}
-use Rattle.edit_words.specs.declared.row.Route.TheVariants.{Stays, Sent}
+use Rattle.edit_words.specs.declared.row.Route.TheVariants.{Sent}
 use Rattle.edit_words.specs.Place.{routed, place, IsAbove}
 use Rattle.edit_words.specs.Rows.{row_from, written, is_at, is_elsewhere, is_elsewhere_of}
 use Rattle.edit_words.specs.Edited.{is_fresh, missing}
@@ -24,20 +20,17 @@ use Rattle.edit_laws.proofs.ListLemmas.{any_from}
 use Rattle.edit_laws.proofs.PlaceLemmas.{place-push}
 use Rattle.edit_laws.proofs.RowLemmas.{row_there, row_from-some, is_at-same, written-to, far_to}
 use Rattle.edit_laws.proofs.AddedLemmas.{missing_parts}
-use Rattle.plan_moves.specs.Waiting.{Waiting, NoneReady, deepest, is_free, at_sources, put_away}
-use Rattle.plan_moves.specs.Moves.{Spots, with_spot}
+use Rattle.plan_moves.specs.Waiting.{Waiting, is_free, at_sources}
+use Rattle.plan_moves.specs.Moves.{Spots}
 use Rattle.plan_moves.specs.Plan.{held_paths}
-use Rattle.plan_moves.specs.SoFar.{held_at, wait_of, route_waiting, route_so_far_by, route_so_far, fresh_at, fresh_there, IsSoFar, IsWaitingWell, IsSpot, put_aside, was_made}
-use Rattle.plan_moves.proofs.Number.{deepest-contains}
-use Rattle.plan_moves.proofs.AtMost.{deepest-here}
+use Rattle.plan_moves.specs.SoFar.{held_at, wait_of, route_waiting, route_so_far_by, route_so_far, fresh_at, fresh_there, IsWaitingWell, IsSpot, put_aside, was_made}
 use Rattle.plan_laws.proofs.StagedNames.{staged_name, temporary_apart, temporary_no_fresh}
 use Rattle.plan_laws.proofs.Setting.{ArePlannedRows}
-use Rattle.plan_laws.proofs.WaitLemmas.{waits_as, wait_of-contains, wait_of-put, away-put}
-use Rattle.plan_laws.proofs.SoFarApart.{outside, staged_front, below_cases, not_staged, not_reserved, source_not_reserved, source_not_root, to_not_root}
+use Rattle.plan_laws.proofs.WaitLemmas.{waits_as, wait_of-contains}
+use Rattle.plan_laws.proofs.SoFarApart.{outside, staged_front, below_cases, not_staged, not_reserved, source_not_reserved, source_not_root}
 use Rattle.plan_laws.proofs.Classes.{PutsAside, class, root_rests, parked_apart}
-use Rattle.plan_laws.proofs.AddedSoFar.{staging_added}
-use Rattle.plan_laws.proofs.Places.{aside_but_links, new_links_route, all_aside, links_apart, edit_not_held, rests_there}
-use Rattle.plan_laws.proofs.Turned.{StaysThere, IsTurn}
+use Rattle.plan_laws.proofs.Places.{aside_but_links, all_aside, links_apart, edit_not_held, rests_there}
+use Rattle.plan_laws.proofs.Turned.{IsTurn}
 
 pub front_of_staging : (s r : Names) → staging ≡ s ++ r → (s ≡ []) ⊎ (s ≡ staging)
 front_of_staging [] r e = inl refl

@@ -1,17 +1,15 @@
 -- Between two moves each path is parked in the staging directory, rests where it was, or went where its change sends it.
-use Rattle.std.proofs.Common.{◌≡◌, ◌≢◌, ◌⊎◌, inl, inr, ℕ, ◌+◌, ◌==◌, Bool, true, false, cond, not, ◌&&◌, ◌||◌, List, [], ◌∷◌, ◌++◌, refl, sym, ◌∙◌, ap, subst, Option, Some, None, is_some, if◌then◌else◌}
+use Rattle.std.proofs.Common.{◌≡◌, ℕ, Bool, true, false, not, ◌&&◌, List, [], ◌∷◌, ◌++◌, refl, sym, ◌∙◌, ap, Option, Some, None, is_some}
 use Rattle.std.specs.Prelude.{Contains}
-use Rattle.std.specs.List.{list_any}
 use Rattle.std.proofs.lemmas.Bool.{and_from, not-true}
 use Rattle.std.proofs.lemmas.Option.{none-some, same_Some}
-use Rattle.std.proofs.lemmas.List.{append-nil}
 use Rattle.dired_text.specs.Paths.{Names}
-use Rattle.commit_steps.specs.Staging.{staging, staged, held, temporary, fresh_name}
+use Rattle.commit_steps.specs.Staging.{staged, held, temporary, fresh_name}
 use Rattle.tree_core.specs.FileTree.{FileTree, Stands}
 use Rattle.edit_words.specs.declared.row.Row.{Row}
 use Rattle.edit_words.specs.declared.row.Route.{Route}
-use Rattle.edit_words.specs.declared.row.Route.TheVariants.{Stays, Named, Sent}
-use Rattle.edit_words.specs.Rows.{row_from, route_to, is_at, is_written, is_victim}
+use Rattle.edit_words.specs.declared.row.Route.TheVariants.{Stays, Sent}
+use Rattle.edit_words.specs.Rows.{row_from, route_to, is_at, is_victim}
 use Rattle.edit_laws.proofs.ListLemmas.{any_from}
 use Rattle.edit_laws.proofs.PlaceLemmas.{IsApart}
 use Rattle.edit_laws.proofs.RowLemmas.{row_from-some, is_written-from, one_row, written-to, written-none, is_at-same}
@@ -21,7 +19,7 @@ use Rattle.plan_moves.specs.SoFar.{wait_of, route_waiting, route_so_far_by, IsWa
 use Rattle.plan_laws.proofs.StagedNames.{staged_name, held_no_temporary, held_no_fresh}
 use Rattle.plan_laws.proofs.Setting.{ArePlannedRows}
 use Rattle.plan_laws.proofs.WaitLemmas.{waits_as}
-use Rattle.plan_laws.proofs.SoFarApart.{Class, parked, rests, gone, route_to-sent, not_reserved, source_not_root, so_far_apart, outside}
+use Rattle.plan_laws.proofs.SoFarApart.{Class, parked, rests, gone, route_to-sent, not_reserved, source_not_root, so_far_apart}
 
 -- what is put aside, each under a name of its own, the victims among it
 pub record PutsAside (t : FileTree) (rs : List Row) (aside : Names → Option Names) : Type 0 where

@@ -1,9 +1,8 @@
 -- Behind what is put aside and the directories that are made, all changes wait.
-use Rattle.std.proofs.Common.{◌≡◌, ◌⊎◌, inl, inr, ℕ, Bool, true, false, not, ◌||◌, List, [], ◌∷◌, ◌++◌, map, filter, refl, sym, ◌∙◌, ap, subst, Option, Some, None, is_some}
+use Rattle.std.proofs.Common.{◌≡◌, ◌⊎◌, inl, inr, Bool, true, false, not, ◌||◌, List, [], ◌∷◌, ◌++◌, map, filter, refl, sym, ◌∙◌, ap, Option, Some, None, is_some}
 use Rattle.std.specs.Prelude.{Contains}
 use Rattle.std.specs.List.{zip}
-use Rattle.std.proofs.lemmas.Bool.{cases_Bool, or_cases, or_parts, or_left}
-use Rattle.std.proofs.lemmas.Option.{none-some}
+use Rattle.std.proofs.lemmas.Bool.{cases_Bool, or_cases, or_left}
 use Rattle.dired_text.specs.Paths.{Names, path_cmp}
 use Rattle.std.specs.FinMap.{find}
 use Rattle.commit_steps.specs.Staging.{staging}
@@ -12,15 +11,15 @@ use Rattle.tree_core.specs.declared.node.Node.TheVariants.{Dir}
 use Rattle.tree_core.specs.FileTree.{FileTree, IsTree}
 use Rattle.edit_words.specs.declared.row.Row.{Row}
 use Rattle.edit_words.specs.declared.row.Route.{Route}
-use Rattle.edit_words.specs.declared.row.Route.TheVariants.{Stays, Sent}
+use Rattle.edit_words.specs.declared.row.Route.TheVariants.{Stays}
 use Rattle.edit_words.specs.Place.{routed, place}
 use Rattle.edit_words.specs.Rows.{row_from, route_to}
-use Rattle.edit_words.specs.Edited.{Entries, IsPlaced, is_fresh, missing}
+use Rattle.edit_words.specs.Edited.{IsPlaced, is_fresh, missing}
 use Rattle.edit_words.specs.Sight.{sight_of}
 use Rattle.edit_laws.proofs.ListLemmas.{contains_head, contains_tail, filter_parts}
 use Rattle.edit_laws.proofs.PlaceLemmas.{by_last, place-push}
 use Rattle.edit_laws.proofs.RowLemmas.{row_from-some}
-use Rattle.plan_moves.specs.Waiting.{Waiting, waiting}
+use Rattle.plan_moves.specs.Waiting.{waiting}
 use Rattle.plan_moves.specs.Moves.{fresh_spots}
 use Rattle.plan_moves.specs.Plan.{held_paths}
 use Rattle.plan_moves.specs.SoFar.{held_at, wait_of, route_waiting, route_so_far_by, route_so_far, fresh_at, added_so_far, same_node, Invariant}

@@ -1,43 +1,43 @@
 -- An entry that was made leads on from the tree so far, where it is carried to its place.
-use Rattle.std.proofs.Common.{◌≡◌, ◌≢◌, ◌⊎◌, inl, inr, ℕ, ◌+◌, ◌==◌, Bool, true, false, not, ◌&&◌, ◌||◌, List, [], ◌∷◌, ◌++◌, map, filter, length, refl, sym, ◌∙◌, ap, subst, arith, append_assoc, Option, Some, None, is_some, IsTrue}
+use Rattle.std.proofs.Common.{◌≡◌, ◌⊎◌, inl, inr, ℕ, ◌==◌, Bool, true, false, not, ◌||◌, List, [], ◌∷◌, ◌++◌, map, filter, length, refl, sym, ◌∙◌, ap, subst, arith, append_assoc, Option, Some, None, is_some}
 use Rattle.std.specs.Prelude.{Contains}
 use Rattle.std.specs.List.{zip}
 use Rattle.std.specs.FinMap.{get, find}
-use Rattle.std.proofs.lemmas.Bool.{cases_Bool, cond-true, cond-false, and_from, or_cases, not-true, false_from_ne_true, eqb-true, eq-eqb}
+use Rattle.std.proofs.lemmas.Bool.{cases_Bool, cond-true, cond-false, and_from, or_cases, not-true, eqb-true, eq-eqb}
 use Rattle.std.proofs.lemmas.Option.{none-some, same_Some}
 use Rattle.std.proofs.lemmas.List.{append-nil}
 use Rattle.dired_text.specs.Paths.{Names, AreNames, path_cmp, parent, rest_below}
-use Rattle.dired_text.proofs.PathLemmas.{parent-push, rest_below-same, path_decides}
+use Rattle.dired_text.proofs.PathLemmas.{parent-push, rest_below-same}
 use Rattle.commit_steps.specs.Staging.{staging, staged}
 use Rattle.tree_core.specs.declared.node.Node.{Node}
-use Rattle.tree_core.specs.FileTree.{FileTree, IsTree, IsDir, IsAbsent, Stands, CanRename, moved, renamed}
-use Rattle.tree_core.proofs.TreeLemmas.{absent_not, dir_stands, renamed_tree, tie, tie-other}
+use Rattle.tree_core.specs.FileTree.{FileTree, IsDir, IsAbsent, Stands, CanRename, moved, renamed}
+use Rattle.tree_core.proofs.TreeLemmas.{absent_not, dir_stands, renamed_tree, tie}
 use Rattle.edit_words.specs.declared.row.Row.{Row}
 use Rattle.edit_words.specs.declared.row.Route.{Route}
-use Rattle.edit_words.specs.declared.row.Route.TheVariants.{Stays, Named, Sent}
+use Rattle.edit_words.specs.declared.row.Route.TheVariants.{Named, Sent}
 use Rattle.edit_words.specs.Place.{routed, place, IsAbove}
 use Rattle.edit_words.specs.Rows.{row_from, route_to, written, is_elsewhere, is_elsewhere_of, is_same_path, last_name}
-use Rattle.edit_words.specs.Edited.{is_fresh, missing}
+use Rattle.edit_words.specs.Edited.{is_fresh}
 use Rattle.edit_words.specs.Sight.{sight_of}
 use Rattle.edit_laws.proofs.ListLemmas.{contains_none, contains_cases, contains_filter, filter_parts}
 use Rattle.edit_laws.proofs.PlaceLemmas.{IsApart, IsFirm, by_last, place-push, place-apart, written_at}
 use Rattle.edit_laws.proofs.PlacedLemmas.{find-append_some, tie_itself}
 use Rattle.edit_laws.proofs.PlacedIsTree.{some_of}
-use Rattle.edit_laws.proofs.RowLemmas.{row_there, row_from-some, written-to, written-none, one_row, route_to-written, front_last, last_name-push}
+use Rattle.edit_laws.proofs.RowLemmas.{row_there, row_from-some, written-to, written-none, one_row, route_to-written, front_last}
 use Rattle.edit_laws.proofs.AddedLemmas.{missing_parts}
 use Rattle.plan_moves.specs.Waiting.{Waiting, is_ready, without}
 use Rattle.plan_moves.specs.Moves.{Spots}
 use Rattle.plan_moves.specs.Plan.{held_paths}
-use Rattle.plan_moves.specs.SoFar.{held_at, wait_of, route_waiting, route_so_far_by, route_so_far, fresh_at, fresh_there, fresh_so_far, added_so_far, same_node, IsSoFar, IsWaitingWell, Invariant}
+use Rattle.plan_moves.specs.SoFar.{held_at, wait_of, route_waiting, route_so_far_by, route_so_far, fresh_at, fresh_there, fresh_so_far, added_so_far, same_node, IsWaitingWell, Invariant}
 use Rattle.plan_laws.proofs.Setting.{ArePlannedRows, in_place_at, above_sibling}
 use Rattle.plan_laws.proofs.WaitLemmas.{wait_of-contains, wait_of-without, gone-without}
 use Rattle.plan_laws.proofs.WellLemmas.{well_carried}
 use Rattle.plan_laws.proofs.Held.{given_held, held_number}
 use Rattle.plan_laws.proofs.Renamed.{moved-by, placed_renamed, alike_placed, carried_along}
-use Rattle.plan_laws.proofs.SoFarApart.{Class, parked, rests, gone, route_to-sent, not_reserved, source_not_reserved, source_not_root, to_not_root, never_above}
+use Rattle.plan_laws.proofs.SoFarApart.{Class, parked, rests, gone, not_reserved, source_not_reserved, source_not_root, to_not_root, never_above}
 use Rattle.plan_laws.proofs.Classes.{PutsAside, Parked, as_held, as_waiting, parked_as, hold_no_spot, class}
 use Rattle.plan_laws.proofs.AddedSoFar.{along, IsAdded, as_staging, as_fresh, as_missing, added_as}
-use Rattle.plan_laws.proofs.Places.{aside_but_links, new_links_route, retargets_row, all_aside, links_apart, old_apart, new_apart, same_place, same_above, link_at, rests_there, dir_no_link}
+use Rattle.plan_laws.proofs.Places.{aside_but_links, new_links_route, retargets_row, all_aside, links_apart, old_apart, new_apart, same_place, same_above, link_at, rests_there}
 use Rattle.plan_laws.proofs.AtSource.{none_below, created_far, missing_not_staged, CreatedAt, at_spot, at_written, created_at, spot_staged}
 use Rattle.plan_laws.proofs.ParentNow.{up_is_dir, parent_far}
 use Rattle.plan_laws.proofs.Moved.{StepsOn, staged_below, staging_no_staged}
@@ -418,9 +418,9 @@ module _ (t : FileTree) (rs : List Row) (set : ArePlannedRows t rs) (made : List
       (λ u has. stays_out u (none_below (staged name.0) u (λ rest e. missing_not_staged t rs set u (name.0 ∷ rest) has e)))
 
   not_added : (node : Node) → IsAdded t rs made spots ws (written w.row) node → ⊥
-  not_added node (as_staging same kind) = not_staged_x [] (same ∙ sym (append-nil staging))
+  not_added node (as_staging same is_dir) = not_staged_x [] (same ∙ sym (append-nil staging))
   not_added node (as_fresh r has fresh_r at) = fresh_not_there r has (fresh_other r has fresh_r) at
-  not_added node (as_missing has kind) = let m = missing_parts t rs (written w.row) has in absent_not _ m.4 (set.fine.untaken m.0 w.row m.1 listed m.2 m.3)
+  not_added node (as_missing has is_dir) = let m = missing_parts t rs (written w.row) has in absent_not _ m.4 (set.fine.untaken m.0 w.row m.1 listed m.2 m.3)
 
   free : IsAbsent now (written w.row)
   free = by_node (get now (written w.row)) refl

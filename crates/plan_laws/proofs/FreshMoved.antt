@@ -1,28 +1,22 @@
 -- An entry that was made leads on from the tree so far, where it is carried to its place.
-use Rattle.std.proofs.Common.{◌≡◌, ◌≢◌, ◌⊎◌, inl, inr, ℕ, ◌+◌, ◌==◌, Bool, true, false, not, ◌&&◌, ◌||◌, List, [], ◌∷◌, ◌++◌, map, filter, length, refl, sym, ◌∙◌, ap, subst, arith, append_assoc, length-append, Option, Some, None, is_some, IsTrue}
-use Rattle.std.specs.Prelude.{Contains}
-use Rattle.std.specs.FinMap.{get}
-use Rattle.std.proofs.lemmas.Bool.{cases_Bool, cond-true, cond-false, and_from, or_cases, not-true, false_from_ne_true, eqb-true}
-use Rattle.std.proofs.lemmas.Option.{none-some, same_Some}
+use Rattle.std.proofs.Common.{◌≡◌, ℕ, List, [], ◌∷◌, ◌++◌, length, sym, ◌∙◌, ap, arith, append_assoc, Option, Some, None}
 use Rattle.std.proofs.lemmas.List.{append-nil, same_from_push}
-use Rattle.dired_text.specs.Paths.{Names, AreNames, parent, rest_below}
-use Rattle.dired_text.proofs.PathLemmas.{parent-push, rest_below-same}
-use Rattle.commit_steps.specs.Staging.{staging, staging_name, staged, temporary, held}
-use Rattle.tree_core.specs.FileTree.{FileTree, IsTree, IsDir, Stands, moved}
+use Rattle.dired_text.specs.Paths.{Names, rest_below}
+use Rattle.commit_steps.specs.Staging.{staging, staging_name, staged}
+use Rattle.tree_core.specs.FileTree.{FileTree, Stands}
 use Rattle.edit_words.specs.declared.row.Row.{Row}
 use Rattle.edit_words.specs.declared.row.Route.{Route}
-use Rattle.edit_words.specs.declared.row.Route.TheVariants.{Stays, Named, Sent}
-use Rattle.edit_words.specs.Place.{routed, place, IsAbove}
+use Rattle.edit_words.specs.declared.row.Route.TheVariants.{Stays, Sent}
+use Rattle.edit_words.specs.Place.{routed, place}
 use Rattle.edit_words.specs.Rows.{row_from, route_to}
-use Rattle.edit_laws.proofs.PlaceLemmas.{IsApart, View, sent, near, view, by_last, place-push, place-apart, push_not_root, routed-sent}
+use Rattle.edit_laws.proofs.PlaceLemmas.{IsApart, View, sent, near, view, by_last, place-push, place-apart}
 use Rattle.edit_laws.proofs.RowLemmas.{route_to-written}
 use Rattle.plan_moves.specs.Waiting.{Waiting}
 use Rattle.plan_moves.specs.Moves.{Spots}
 use Rattle.plan_moves.specs.SoFar.{wait_of, route_so_far_by, IsWaitingWell}
-use Rattle.plan_laws.proofs.StagedNames.{staged_name}
 use Rattle.plan_laws.proofs.Setting.{ArePlannedRows}
 use Rattle.plan_laws.proofs.SoFarApart.{Class, parked, rests, gone, route_to-sent, not_staged, not_reserved, to_not_root}
-use Rattle.plan_laws.proofs.Classes.{PutsAside, class, root_rests, now_apart}
+use Rattle.plan_laws.proofs.Classes.{PutsAside, class, now_apart}
 use Rattle.plan_laws.proofs.AtSource.{none_below}
 use Rattle.plan_laws.proofs.Moved.{staged_below}
 

@@ -1,29 +1,26 @@
 -- What is put aside, and under which names.
-use Rattle.std.proofs.Common.{◌≡◌, ◌≢◌, ◌⊎◌, inl, inr, ℕ, ◌+◌, ◌*◌, ◌<◌, ◌≤◌, ◌^◌, Bool, true, false, cond, not, ◌&&◌, ◌||◌, List, [], ◌∷◌, ◌++◌, length, refl, sym, ◌∙◌, ap, subst, arith, length-append, Option, Some, None, is_some, IsTrue, if◌then◌else◌}
+use Rattle.std.proofs.Common.{◌≡◌, ◌⊎◌, inl, inr, ℕ, ◌+◌, ◌*◌, ◌<◌, ◌≤◌, ◌^◌, Bool, true, false, cond, not, ◌&&◌, List, [], ◌∷◌, ◌++◌, length, refl, sym, ◌∙◌, ap, subst, arith, length-append, Option, Some, None, is_some}
 use Rattle.std.specs.Prelude.{Contains}
 use Rattle.std.specs.List.{flat_map}
-use Rattle.std.proofs.lemmas.Bool.{cond-true, cond-false, cases_Bool, and_parts, and_from, or_cases, or_left, or_right, not-true, not_from_false}
+use Rattle.std.proofs.lemmas.Bool.{cond-true, cond-false, cases_Bool, and_parts, and_from, or_cases, not-true}
 use Rattle.std.proofs.lemmas.Option.{none-some, same_Some}
 use Rattle.std.proofs.lemmas.List.Elements.{Contains-append_left, Contains-append_right, Contains-append_cases}
 use Rattle.dired_text.specs.Paths.{Names}
 use Rattle.commit_steps.specs.Staging.{staged, held}
 use Rattle.tree_core.specs.FileTree.{FileTree, IsDir, Stands}
-use Rattle.tree_core.proofs.TreeLemmas.{absent_not, dir_stands}
+use Rattle.tree_core.proofs.TreeLemmas.{absent_not}
 use Rattle.edit_words.specs.declared.row.Row.{Row}
-use Rattle.edit_words.specs.Place.{IsAbove}
-use Rattle.edit_words.specs.Rows.{is_same_path, is_source, is_victim, is_written, is_at, row_from}
-use Rattle.edit_words.specs.Edited.{is_fresh}
+use Rattle.edit_words.specs.Rows.{is_same_path, is_source, is_victim, is_written, is_at}
 use Rattle.edit_words.specs.Refusals.{victim_of, victim_at}
 use Rattle.edit_words.specs.Sight.{Sight, sight_of}
-use Rattle.edit_words.specs.WellFormed.{max_changes}
 use Rattle.edit_words.proofs.SameLemmas.{same_path, same_itself}
 use Rattle.edit_words.proofs.RefusalLemmas.{stands_decides}
 use Rattle.edit_laws.proofs.ListLemmas.{contains_head, contains_tail, contains_cases, contains_none, contains_flat, flat_parts, any_parts}
-use Rattle.edit_laws.proofs.RowLemmas.{is_at-true, row_there}
+use Rattle.edit_laws.proofs.RowLemmas.{is_at-true}
 use Rattle.plan_moves.specs.Plan.{held_by, held_paths, is_given_up, listed}
 use Rattle.plan_moves.specs.SoFar.{held_at}
 use Rattle.plan_laws.proofs.StagedNames.{staged_name, held_apart}
-use Rattle.plan_laws.proofs.Setting.{ArePlannedRows, above_dir}
+use Rattle.plan_laws.proofs.Setting.{ArePlannedRows}
 
 -- what is put aside has a number, and is listed
 pub record HeldAt (n : ℕ) (hs : List Names) (p path : Names) : Type 0 where

@@ -1,20 +1,17 @@
 -- Each path is put aside once.
-use Rattle.std.proofs.Common.{◌≡◌, ◌⊎◌, inl, inr, ℕ, ◌<◌, Bool, true, false, cond, not, ◌||◌, List, [], ◌∷◌, ◌++◌, refl, sym, ◌∙◌, ap, subst, arith, Option, Some, None, is_some}
+use Rattle.std.proofs.Common.{◌≡◌, inl, inr, ◌<◌, Bool, true, false, cond, List, [], ◌∷◌, ◌++◌, sym, ◌∙◌, ap, arith, Option, Some, None, is_some}
 use Rattle.std.specs.Prelude.{Contains}
 use Rattle.std.specs.List.{flat_map}
-use Rattle.std.proofs.lemmas.Bool.{cases_Bool, cond-true, cond-false}
-use Rattle.std.proofs.lemmas.Option.{none-some, same_Some}
 use Rattle.std.proofs.lemmas.List.Elements.{Contains-append_cases}
 use Rattle.dired_text.specs.Paths.{Names}
 use Rattle.tree_core.specs.FileTree.{FileTree}
 use Rattle.edit_words.specs.declared.row.Row.{Row}
 use Rattle.edit_words.specs.Refusals.{victim_of}
-use Rattle.edit_words.specs.Rows.{is_source}
 use Rattle.edit_words.specs.Sight.{sight_of}
 use Rattle.edit_words.specs.WellFormed.{LinesRise}
 use Rattle.edit_words.proofs.FirstLemmas.{rise_rest, rise_first}
 use Rattle.edit_laws.proofs.ListLemmas.{contains_head, contains_tail, contains_cases, contains_none, flat_parts}
-use Rattle.edit_laws.proofs.RowLemmas.{row_there, one_row, written-to}
+use Rattle.edit_laws.proofs.RowLemmas.{row_there, written-to}
 use Rattle.plan_moves.specs.Plan.{held_by, held_paths, is_given_up, listed}
 use Rattle.plan_laws.proofs.Setting.{ArePlannedRows}
 use Rattle.plan_laws.proofs.Held.{HeldBy, replaces, gives_up, replaced, held_by_as}

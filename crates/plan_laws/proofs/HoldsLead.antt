@@ -1,27 +1,26 @@
 -- What is put aside can be put aside, one after another.
-use Rattle.std.proofs.Common.{◌≡◌, ◌≢◌, ◌⊎◌, inl, inr, ℕ, ◌+◌, ◌<◌, ◌≤◌, ◌^◌, Bool, true, false, not, List, [], ◌∷◌, ◌++◌, map, filter, length, refl, sym, ◌∙◌, ap, subst, arith, if◌then◌else◌, append_assoc, length-append, Option, Some, None, is_some, IsTrue}
+use Rattle.std.proofs.Common.{◌≡◌, ◌≢◌, inl, inr, ℕ, ◌+◌, ◌<◌, ◌≤◌, ◌^◌, List, [], ◌∷◌, ◌++◌, map, filter, length, refl, sym, ◌∙◌, ap, subst, arith, if◌then◌else◌, append_assoc, length-append, Option, Some, None, is_some}
 use Rattle.std.specs.Prelude.{Contains}
 use Rattle.std.specs.List.{zip}
 use Rattle.std.specs.FinMap.{get, find}
 use Rattle.std.proofs.lemmas.Bool.{cases_Bool, cond-true, cond-false, false_from_ne_true}
-use Rattle.std.proofs.lemmas.Option.{none-some, same_Some}
 use Rattle.std.proofs.lemmas.List.{append-nil}
 use Rattle.std.proofs.lemmas.List.Elements.{Contains-append_left, Contains-append_right}
 use Rattle.dired_text.specs.Paths.{Names, path_cmp, parent, rest_below}
 use Rattle.dired_text.proofs.PathLemmas.{rest_below-same, path_decides, parent-push}
 use Rattle.commit_steps.specs.declared.step.Step.TheVariants.{Rename}
-use Rattle.commit_steps.specs.Staging.{staging, staged, held, fresh_name}
+use Rattle.commit_steps.specs.Staging.{staging, staged, held}
 use Rattle.commit_steps.specs.Steps.{IsLawfulStep}
 use Rattle.tree_core.specs.declared.node.Node.{Node}
 use Rattle.tree_core.specs.declared.node.Node.TheVariants.{Dir}
-use Rattle.tree_core.specs.FileTree.{FileTree, IsTree, IsDir, IsAbsent, Stands, CanRename, moved, renamed}
-use Rattle.tree_core.proofs.TreeLemmas.{tie, renamed_tree, above_stands, absent_not}
+use Rattle.tree_core.specs.FileTree.{FileTree, IsDir, IsAbsent, Stands, CanRename, moved, renamed}
+use Rattle.tree_core.proofs.TreeLemmas.{tie, renamed_tree, above_stands}
 use Rattle.edit_words.specs.declared.row.Row.{Row}
 use Rattle.edit_words.specs.declared.row.Route.{Route}
 use Rattle.edit_words.specs.declared.row.Route.TheVariants.{Stays, Sent}
-use Rattle.edit_words.specs.Place.{routed, place, IsAbove}
+use Rattle.edit_words.specs.Place.{routed, place}
 use Rattle.edit_words.specs.Rows.{is_same_path, last_name}
-use Rattle.edit_words.specs.Edited.{Entries, IsPlaced, is_fresh}
+use Rattle.edit_words.specs.Edited.{Entries, is_fresh}
 use Rattle.edit_words.specs.Sight.{sight_of}
 use Rattle.edit_words.proofs.SameLemmas.{same_path, same_itself}
 use Rattle.edit_laws.proofs.ListLemmas.{contains_head, contains_tail, contains_cases, contains_none, filter_parts, map_parts}
@@ -34,14 +33,14 @@ use Rattle.plan_moves.specs.Plan.{held_paths, holds}
 use Rattle.plan_moves.specs.SoFar.{held_at, same_node}
 use Rattle.plan_laws.specs.Laws.{LeadOn, IsPutAside, aside_route, aside_route_by, made_at_first}
 use Rattle.plan_laws.proofs.Setting.{ArePlannedRows}
-use Rattle.plan_laws.proofs.StagedNames.{staged_name, held_apart, held_no_fresh}
+use Rattle.plan_laws.proofs.StagedNames.{staged_name, held_no_fresh}
 use Rattle.plan_laws.proofs.EntryNames.{held_names}
-use Rattle.plan_laws.proofs.Held.{HeldAt, held_number, held_at_apart, held_if_listed, HeldAs, victim, given, held_as, few_held, full_not_held}
+use Rattle.plan_laws.proofs.Held.{held_number, held_at_apart, held_if_listed, HeldAs, victim, given, held_as, few_held, full_not_held}
 use Rattle.plan_laws.proofs.HeldOnce.{AreOnce, held_once}
 use Rattle.plan_laws.proofs.Renamed.{moved-by, place_moved, rerouted, carried_along}
-use Rattle.plan_laws.proofs.SoFarApart.{Class, parked, rests, gone, so_far_apart, source_not_root, source_not_reserved, to_not_root, not_reserved, not_staged}
+use Rattle.plan_laws.proofs.SoFarApart.{Class, parked, rests, so_far_apart, source_not_root, source_not_reserved, to_not_root, not_reserved}
 use Rattle.plan_laws.proofs.WellLemmas.{FreshSpot, fresh_spot}
-use Rattle.plan_laws.proofs.Moved.{staging_no_staged, staged_below}
+use Rattle.plan_laws.proofs.Moved.{staging_no_staged}
 use Rattle.plan_laws.proofs.AtSource.{none_below, front_of_staged, front_of_staging}
 use Rattle.plan_laws.proofs.AddedSoFar.{along_zip}
 use Rattle.plan_laws.proofs.MovesLead.{outside_path}
@@ -284,6 +283,9 @@ module _ (t : FileTree) (rs : List Row) (set : ArePlannedRows t rs) (made : List
   holds_lead [] front n now all at is = subst (λ (l : List Names). IsPutAside t rs made l now) (sym (append-nil front) ∙ sym all) is
   holds_lead (p ∷ rest) front n now all at is =
       let numbers : 0 + length front ≡ n = omega arith in
-      let on : PutsOn t rs made front now p (staged (held n)) = subst (λ (k : ℕ). PutsOn t rs made front now p (staged (held k))) numbers (each front rest p all now is) in
-      (on.can, on.lawful, holds_lead rest (front ++ p ∷ []) (n + 1) (renamed now p (staged (held n))) (all ∙ sym (append_assoc front (p ∷ []) rest))
-      (let long = length-append front (p ∷ []) in omega arith) on.next)
+      let on : PutsOn t rs made front now p (staged (held n)) = subst (λ (k : ℕ). PutsOn t rs made front now p (staged (held k))) numbers (each front rest p all now is) in (
+        on.can,
+        on.lawful,
+        holds_lead rest (front ++ p ∷ []) (n + 1) (renamed now p (staged (held n))) (all ∙ sym (append_assoc front (p ∷ []) rest))
+            (let long = length-append front (p ∷ []) in omega arith) on.next,
+      )

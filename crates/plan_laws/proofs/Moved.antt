@@ -1,16 +1,15 @@
 -- A knot, and an edit that is carried out, lead on from the tree so far.
-use Rattle.std.proofs.Common.{◌≡◌, ◌≢◌, ◌⊎◌, inl, inr, ℕ, ◌+◌, ◌==◌, Bool, true, false, not, ◌&&◌, ◌||◌, List, [], ◌∷◌, ◌++◌, length, refl, sym, ◌∙◌, ap, subst, arith, append_assoc, length-append, Option, Some, None, is_some, IsTrue}
+use Rattle.std.proofs.Common.{◌≡◌, ◌≢◌, inl, inr, ℕ, ◌+◌, ◌==◌, Bool, true, false, not, ◌||◌, List, [], ◌∷◌, ◌++◌, length, refl, sym, ◌∙◌, ap, subst, arith, length-append, Option, Some, None, is_some}
 use Rattle.std.specs.Prelude.{Contains}
-use Rattle.std.specs.FinMap.{get}
-use Rattle.std.proofs.lemmas.Bool.{cases_Bool, cond-true, cond-false, and_from, not-true, not_from_false, false_from_ne_true, eqb-true, eq-eqb}
-use Rattle.std.proofs.lemmas.Option.{none-some, same_Some}
+use Rattle.std.proofs.lemmas.Bool.{cases_Bool, cond-true, cond-false, and_from, not-true, false_from_ne_true, eqb-true, eq-eqb}
+use Rattle.std.proofs.lemmas.Option.{none-some}
 use Rattle.std.proofs.lemmas.List.{append-nil}
 use Rattle.dired_text.specs.Paths.{Names, AreNames, parent, rest_below}
 use Rattle.dired_text.proofs.PathLemmas.{parent-push}
 use Rattle.commit_steps.specs.Staging.{staging, staged, temporary}
 use Rattle.tree_core.specs.declared.node.Node.{Node}
 use Rattle.tree_core.specs.declared.node.Node.TheVariants.{Dir}
-use Rattle.tree_core.specs.FileTree.{FileTree, IsTree, IsDir, Stands, CanRename, renamed}
+use Rattle.tree_core.specs.FileTree.{FileTree, IsDir, Stands, CanRename, renamed}
 use Rattle.tree_core.proofs.TreeLemmas.{absent_not}
 use Rattle.edit_words.specs.declared.row.Row.{Row}
 use Rattle.edit_words.specs.declared.row.Route.{Route}
@@ -23,10 +22,10 @@ use Rattle.edit_laws.proofs.PlaceLemmas.{by_last, place-push}
 use Rattle.edit_laws.proofs.PlacedIsTree.{IsDirNode}
 use Rattle.edit_laws.proofs.RowLemmas.{written-to, one_row, route_to-written}
 use Rattle.edit_laws.proofs.AddedLemmas.{missing_parts}
-use Rattle.plan_moves.specs.Waiting.{Waiting, NoneReady, deepest, is_ready, is_in_place, without, put_away}
+use Rattle.plan_moves.specs.Waiting.{Waiting, NoneReady, deepest, is_ready, without, put_away}
 use Rattle.plan_moves.specs.Moves.{Spots, with_spot}
 use Rattle.plan_moves.specs.Plan.{held_paths}
-use Rattle.plan_moves.specs.SoFar.{held_at, wait_of, route_waiting, route_so_far_by, route_so_far, fresh_at, IsSoFar, IsWaitingWell, Invariant}
+use Rattle.plan_moves.specs.SoFar.{held_at, wait_of, route_so_far_by, route_so_far, fresh_at, IsWaitingWell, Invariant}
 use Rattle.plan_moves.proofs.Number.{deepest-contains}
 use Rattle.plan_moves.proofs.AtMost.{deepest-here}
 use Rattle.plan_laws.proofs.StagedNames.{staged_name}
@@ -36,9 +35,9 @@ use Rattle.plan_laws.proofs.WellLemmas.{well_carried, well_put}
 use Rattle.plan_laws.proofs.SoFarApart.{Class, parked, rests, gone, route_to-sent, below_cases, not_reserved, source_not_root, to_not_root}
 use Rattle.plan_laws.proofs.Classes.{PutsAside, class, root_rests, parked_apart}
 use Rattle.plan_laws.proofs.AddedSoFar.{staging_added}
-use Rattle.plan_laws.proofs.Places.{aside_but_links, new_links_route, all_aside, links_apart, retargets_row, same_route, rests_there}
-use Rattle.plan_laws.proofs.Turned.{StaysThere, IsTurn, can_turn, turned, turned_tree}
-use Rattle.plan_laws.proofs.AtSource.{none_below, front_of_staged, created_far, missing_not_staged, CreatedAt, at_spot, at_written, created_at, spot_staged, spot_not_next, others_stay, stands_s, moves, found, route_s, created_same, up_there, turn_from}
+use Rattle.plan_laws.proofs.Places.{aside_but_links, all_aside, links_apart, retargets_row, same_route, rests_there}
+use Rattle.plan_laws.proofs.Turned.{IsTurn, can_turn, turned, turned_tree}
+use Rattle.plan_laws.proofs.AtSource.{none_below, front_of_staged, created_far, missing_not_staged, CreatedAt, at_spot, at_written, created_at, spot_staged, spot_not_next, others_stay, stands_s, moves, found, route_s, created_same, turn_from}
 use Rattle.plan_laws.proofs.ParentNow.{up_is_dir, parent_far}
 
 -- one step on: the rename can be done, and what holds between two moves holds after it
@@ -236,23 +235,23 @@ module _ (t : FileTree) (rs : List Row) (set : ArePlannedRows t rs) (made : List
       pub spot_turns : StepsOn t rs made n spots (without w ws) now (spots w.row.line) x
       spot_turns = subst (λ (from : Names). StepsOn t rs made n spots (without w ws) now from x) (sym name.1)
           (turns n spots (without w ws) w.row sp sn (staged name.0) x (well_carried t rs set n spots ws inv.well w c ready) (record {
-        listed = listed;
-        source = source;
-        old = old;
-        others = others_stay t rs set n spots ws inv.well w.row (sp ++ sn ∷ []) spots (without w ws) listed source other_lines;
-        at = place-push (route_so_far t rs spots ws) sp sn ∙ ap (λ (a : Route). routed a (place (route_so_far t rs spots ws) sp) sn) route_now;
-        goes = goes_there still_away;
-        apart = none_below (staged name.0) x (λ r is. not_reserved t rs set w.row x (name.0 ∷ r) listed to is);
-        outside = sends_outside (λ p. held_at 0 (held_paths (sight_of t) rs) p) (all_aside t rs set) route_now;
-        links_outside = sends_outside (aside_but_links t rs) (links_apart t rs set) (same_route t rs set n spots ws inv.well (sp ++ sn ∷ []) no_link ∙ route_now);
-        named = named;
-        parent_is_dir = parent_dir still_away;
-        from_not_root = λ none. let long = ap length none in omega arith;
-        staging_stays = record { outside = none_below (staged name.0) staging (staging_no_staged name.0); stays = refl; other = no_staging };
-        created_stay = λ r listed_r none. record {
-          outside = created_outside r listed_r none;
-          stays = created_same t rs set n spots ws inv.well w sp sn c source old spots (without w ws) other_lines r listed_r none;
-          other = no_created r listed_r none;
-        };
-        missing_stay = λ u has. record { outside = none_below (staged name.0) u (λ r is. missing_not_staged t rs set u (name.0 ∷ r) has is); stays = refl; other = no_missing u has };
-      }))
+            listed = listed;
+            source = source;
+            old = old;
+            others = others_stay t rs set n spots ws inv.well w.row (sp ++ sn ∷ []) spots (without w ws) listed source other_lines;
+            at = place-push (route_so_far t rs spots ws) sp sn ∙ ap (λ (a : Route). routed a (place (route_so_far t rs spots ws) sp) sn) route_now;
+            goes = goes_there still_away;
+            apart = none_below (staged name.0) x (λ r is. not_reserved t rs set w.row x (name.0 ∷ r) listed to is);
+            outside = sends_outside (λ p. held_at 0 (held_paths (sight_of t) rs) p) (all_aside t rs set) route_now;
+            links_outside = sends_outside (aside_but_links t rs) (links_apart t rs set) (same_route t rs set n spots ws inv.well (sp ++ sn ∷ []) no_link ∙ route_now);
+            named = named;
+            parent_is_dir = parent_dir still_away;
+            from_not_root = λ none. let long = ap length none in omega arith;
+            staging_stays = record { outside = none_below (staged name.0) staging (staging_no_staged name.0); stays = refl; other = no_staging };
+            created_stay = λ r listed_r none. record {
+              outside = created_outside r listed_r none;
+              stays = created_same t rs set n spots ws inv.well w sp sn c source old spots (without w ws) other_lines r listed_r none;
+              other = no_created r listed_r none;
+            };
+            missing_stay = λ u has. record { outside = none_below (staged name.0) u (λ r is. missing_not_staged t rs set u (name.0 ∷ r) has is); stays = refl; other = no_missing u has };
+          }))

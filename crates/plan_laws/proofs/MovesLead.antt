@@ -1,7 +1,7 @@
 -- The moves lead from the tree in which all changes wait to one in which none does.
-use Rattle.std.proofs.Common.{◌≡◌, ◌≢◌, ◌⊎◌, inl, inr, ℕ, ◌+◌, ◌<◌, ◌≤◌, ◌^◌, Bool, true, false, not, ◌||◌, List, [], ◌∷◌, ◌++◌, filter, length, refl, sym, ◌∙◌, ap, subst, arith, Option, Some, None, is_some, if◌then◌else◌}
+use Rattle.std.proofs.Common.{◌≡◌, ◌≢◌, ◌⊎◌, inl, inr, ℕ, ◌+◌, ◌<◌, ◌≤◌, Bool, true, false, not, ◌||◌, List, [], ◌∷◌, ◌++◌, filter, length, refl, sym, ◌∙◌, ap, subst, arith, Option, Some, None, is_some}
 use Rattle.std.specs.Prelude.{Contains, unwrap_or}
-use Rattle.std.proofs.lemmas.Bool.{cond-true, cond-false, cases_Bool, or_cases, or_right}
+use Rattle.std.proofs.lemmas.Bool.{cond-true, cond-false, cases_Bool, or_right}
 use Rattle.std.proofs.lemmas.Option.{none-some}
 use Rattle.dired_text.specs.Paths.{Names, AreNames, parent}
 use Rattle.commit_steps.specs.declared.step.Step.{Step}
@@ -20,7 +20,7 @@ use Rattle.plan_moves.specs.Waiting.{Waiting, NoneReady, deepest, at_sources, is
 use Rattle.plan_moves.specs.Moves.{Moves, Spots, over, carry, knot, spot_of, with_spot}
 use Rattle.plan_moves.specs.SoFar.{Invariant, IsSpot, put_aside, was_made}
 use Rattle.plan_moves.proofs.Number.{none_left, deepest-contains}
-use Rattle.plan_moves.proofs.AtMost.{deepest-here, put_one, here_are}
+use Rattle.plan_moves.proofs.AtMost.{deepest-here}
 use Rattle.plan_laws.specs.Laws.{HaveNames, NoneWaits, LeadOn}
 use Rattle.plan_laws.proofs.Setting.{ArePlannedRows}
 use Rattle.plan_laws.proofs.EntryNames.{temporary_names}
@@ -100,11 +100,15 @@ module _ (t : FileTree) (rs : List Row) (set : ArePlannedRows t rs) (names : Hav
 
     -- each of them is lawful
     spot_path : (path : Names) → IsSpot n path → IsStepPath path
-    spot_path path (put_aside m less is) = inr (record { name = temporary m; is = is; entry = record {
-      number = m;
-      small = let less : m < n = less in let room : n + length (at_sources ws) ≤ length rs = inv.well.room in let few : length rs ≤ 262144 = set.few in omega arith;
-      named = inl refl;
-    } })
+    spot_path path (put_aside m less is) = inr (record {
+      name = temporary m;
+      is = is;
+      entry = record {
+        number = m;
+        small = let less : m < n = less in let room : n + length (at_sources ws) ≤ length rs = inv.well.room in let few : length rs ≤ 262144 = set.few in omega arith;
+        named = inl refl;
+      };
+    })
     spot_path path (was_made m small is) = inr (record { name = fresh_name m; is = is; entry = record { number = m; small = small; named = inr (inr refl) } })
 
     starts : (w : Waiting) → Contains ws w → IsStepPath (spot_of spots w)
@@ -136,11 +140,15 @@ module _ (t : FileTree) (rs : List Row) (set : ArePlannedRows t rs) (names : Hav
     lawful from dest a b can = (a, b, can.apart, none_below dest from (λ r is. absent_not _ can.absent (above_stands now inv.tree r dest (subst (Stands now) is can.stands))))
 
     next_path : IsStepPath (staged (temporary n))
-    next_path = inr (record { name = temporary n; is = refl; entry = record {
-      number = n;
-      small = let room : n + length (at_sources ws) ≤ length rs = inv.well.room in let few : length rs ≤ 262144 = set.few in omega arith;
-      named = inl refl;
-    } })
+    next_path = inr (record {
+      name = temporary n;
+      is = refl;
+      entry = record {
+        number = n;
+        small = let room : n + length (at_sources ws) ≤ length rs = inv.well.room in let few : length rs ≤ 262144 = set.few in omega arith;
+        named = inl refl;
+      };
+    })
 
   pub moves_lead : (n : ℕ) (spots : Spots) (ws : List Waiting) (now : FileTree) (steps : List Step) → Invariant t rs made n spots ws now → Moves n spots ws steps → LeadOn (NoneWaits t rs made) now steps
   moves_lead n spots ws now steps inv (over _ _ _ no_one end) = record { number = n; spots = spots; invariant = subst (λ (l : List Waiting). Invariant t rs made n spots l now) (none_left ws no_one end) inv }

@@ -1,22 +1,20 @@
 -- Above the written path of a ready edit stands a directory.
-use Rattle.std.proofs.Common.{◌≡◌, ◌≢◌, ◌⊎◌, inl, inr, ℕ, ◌==◌, Bool, true, false, not, ◌&&◌, ◌||◌, List, [], ◌∷◌, ◌++◌, refl, sym, ◌∙◌, ap, subst, append_assoc, Option, Some, None, is_some, IsTrue}
+use Rattle.std.proofs.Common.{◌≡◌, ◌≢◌, inl, inr, ℕ, Bool, true, false, not, ◌&&◌, ◌||◌, List, [], ◌∷◌, ◌++◌, refl, sym, ◌∙◌, ap, subst, append_assoc, Option, Some, None, is_some}
 use Rattle.std.specs.Prelude.{Contains}
 use Rattle.std.specs.FinMap.{get, find}
-use Rattle.std.proofs.lemmas.Bool.{cases_Bool, or_cases, and_from, not-true}
-use Rattle.std.proofs.lemmas.Option.{none-some, same_Some}
+use Rattle.std.proofs.lemmas.Bool.{or_cases, and_from, not-true}
+use Rattle.std.proofs.lemmas.Option.{none-some}
 use Rattle.dired_text.specs.Paths.{Names, path_cmp, parent}
-use Rattle.dired_text.proofs.PathLemmas.{parent-push}
 use Rattle.commit_steps.specs.Staging.{staging, staged}
 use Rattle.tree_core.specs.declared.node.Node.{Node}
-use Rattle.tree_core.specs.declared.node.Node.TheVariants.{Dir, Link, File}
-use Rattle.tree_core.specs.FileTree.{FileTree, IsTree, IsAbsent, IsDir, Stands, is_dir_node}
-use Rattle.tree_core.proofs.TreeLemmas.{above_stands, absent_not, none_of, dir_stands}
+use Rattle.tree_core.specs.FileTree.{FileTree, IsDir, Stands}
+use Rattle.tree_core.proofs.TreeLemmas.{above_stands, absent_not, dir_stands}
 use Rattle.edit_words.specs.declared.row.Row.{Row}
 use Rattle.edit_words.specs.declared.row.Route.{Route}
-use Rattle.edit_words.specs.declared.row.Route.TheVariants.{Stays, Sent}
+use Rattle.edit_words.specs.declared.row.Route.TheVariants.{Stays}
 use Rattle.edit_words.specs.Place.{routed, place, IsAbove}
 use Rattle.edit_words.specs.Rows.{row_from, route_to, written, is_at, is_elsewhere, is_source, is_victim, last_name}
-use Rattle.edit_words.specs.Edited.{is_fresh, missing}
+use Rattle.edit_words.specs.Edited.{is_fresh}
 use Rattle.edit_words.specs.Sight.{sight_of}
 use Rattle.edit_laws.proofs.ListLemmas.{any_from}
 use Rattle.edit_laws.proofs.PlaceLemmas.{IsFirm, place-apart, stays_above, place-stays}
@@ -27,14 +25,14 @@ use Rattle.plan_moves.specs.Waiting.{Waiting, is_free}
 use Rattle.plan_moves.specs.Moves.{Spots}
 use Rattle.plan_moves.specs.Plan.{held_paths}
 use Rattle.plan_moves.specs.SoFar.{held_at, wait_of, route_waiting, route_so_far_by, route_so_far, fresh_at, added_so_far, IsSoFar, IsWaitingWell}
-use Rattle.plan_laws.proofs.Setting.{ArePlannedRows, in_place_at}
+use Rattle.plan_laws.proofs.Setting.{ArePlannedRows}
 use Rattle.plan_laws.proofs.WaitLemmas.{waits_as}
 use Rattle.plan_laws.proofs.Held.{HeldAs, victim, given, held_is}
 use Rattle.plan_laws.proofs.SoFarApart.{Class, parked, rests, gone, not_staged, not_reserved, source_not_root, to_not_root, never_above}
 use Rattle.plan_laws.proofs.Classes.{class}
 use Rattle.plan_laws.proofs.AddedSoFar.{IsAdded, as_staging, as_fresh, as_missing, added_as, missing_found}
-use Rattle.plan_laws.proofs.Places.{aside_but_links, new_links_route, links_apart, new_apart, same_above, link_at, rests_there}
-use Rattle.plan_laws.proofs.AtSource.{CreatedAt, at_spot, at_written, created_at, created_far, spot_staged}
+use Rattle.plan_laws.proofs.Places.{aside_but_links, new_links_route, links_apart, new_apart, same_above, link_at}
+use Rattle.plan_laws.proofs.AtSource.{at_spot, at_written, created_at, created_far, spot_staged}
 
 module _ (t : FileTree) (rs : List Row) (set : ArePlannedRows t rs) (made : List Node) (now : FileTree) (n : ℕ) (spots : Spots) (ws : List Waiting)
     (well : IsWaitingWell rs n spots ws) (shown : IsSoFar t rs made spots ws now) where

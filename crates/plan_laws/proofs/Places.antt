@@ -1,29 +1,26 @@
 -- Where the paths are between two moves: those of the old entries, and those of the links whose entries were made anew.
-use Rattle.std.proofs.Common.{◌≡◌, ◌≢◌, ◌⊎◌, inl, inr, ℕ, Bool, true, false, cond, not, ◌&&◌, ◌||◌, List, [], ◌∷◌, ◌++◌, refl, sym, ◌∙◌, ap, subst, append_assoc, Option, Some, None, is_some}
+use Rattle.std.proofs.Common.{◌≡◌, inl, inr, ℕ, Bool, true, false, cond, not, ◌||◌, List, [], ◌∷◌, ◌++◌, refl, sym, ◌∙◌, ap, subst, append_assoc, Option, Some, None, is_some}
 use Rattle.std.specs.Prelude.{Contains}
-use Rattle.std.proofs.lemmas.Bool.{cond-true, cond-false, cases_Bool, and_parts, not-true, or_cases, false_from_ne_true}
-use Rattle.std.proofs.lemmas.Option.{none-some, same_Some}
-use Rattle.std.proofs.lemmas.List.{append-nil}
-use Rattle.dired_text.specs.Paths.{Names, parent}
+use Rattle.std.proofs.lemmas.Bool.{cond-true, cond-false, and_parts, or_cases, false_from_ne_true}
+use Rattle.std.proofs.lemmas.Option.{none-some}
+use Rattle.dired_text.specs.Paths.{Names}
 use Rattle.dired_text.proofs.PathLemmas.{parent-push}
-use Rattle.commit_steps.specs.Staging.{staged, held}
 use Rattle.tree_core.specs.FileTree.{FileTree, IsDir, Stands}
 use Rattle.tree_core.proofs.TreeLemmas.{dir_stands, above_stands}
 use Rattle.edit_words.specs.declared.row.Row.{Row}
 use Rattle.edit_words.specs.declared.row.Route.{Route}
-use Rattle.edit_words.specs.declared.row.Route.TheVariants.{Stays, Sent}
+use Rattle.edit_words.specs.declared.row.Route.TheVariants.{Stays}
 use Rattle.edit_words.specs.Place.{routed, place, IsAbove}
-use Rattle.edit_words.specs.Rows.{row_from, route_to, is_source, is_written, is_victim, last_name, written}
+use Rattle.edit_words.specs.Rows.{row_from, route_to, is_written, is_victim, last_name}
 use Rattle.edit_words.specs.Edited.{is_fresh}
 use Rattle.edit_words.specs.Sight.{sight_of}
 use Rattle.edit_laws.proofs.PlaceLemmas.{IsApart, by_last, place-push, place-stays}
-use Rattle.edit_laws.proofs.PlacedIsTree.{some_of}
-use Rattle.edit_laws.proofs.RowLemmas.{row_from-some, row_there, front_last, last_name-push}
+use Rattle.edit_laws.proofs.RowLemmas.{row_from-some, row_there, last_name-push}
 use Rattle.plan_moves.specs.Waiting.{Waiting}
 use Rattle.plan_moves.specs.Moves.{Spots}
-use Rattle.plan_moves.specs.Plan.{held_paths, is_given_up}
+use Rattle.plan_moves.specs.Plan.{held_paths}
 use Rattle.plan_moves.specs.SoFar.{held_at, wait_of, route_waiting, route_so_far_by, route_so_far, fresh_at, fresh_there, IsWaitingWell}
-use Rattle.plan_laws.proofs.Held.{HeldAs, victim, given, held_is, held_number, held_at_apart, few_held, victim_held, given_held, full_not_held}
+use Rattle.plan_laws.proofs.Held.{HeldAs, victim, given, held_is, held_number, held_at_apart, few_held, victim_held, full_not_held}
 use Rattle.plan_laws.proofs.Setting.{ArePlannedRows}
 use Rattle.plan_laws.proofs.SoFarApart.{to_not_root, source_not_root}
 use Rattle.plan_laws.proofs.Classes.{PutsAside, now_apart}

@@ -1,18 +1,18 @@
 -- One rename takes a placed tree to the placed tree of one route more.
-use Rattle.std.proofs.Common.{◌≡◌, ◌≢◌, ◌⊎◌, inl, inr, ⊎_elim, ℕ, ◌+◌, ◌<◌, Bool, true, false, List, [], ◌∷◌, ◌++◌, map, filter, length, refl, sym, ◌∙◌, ap, subst, arith, append_assoc, length-append, Option, Some, None, is_some, IsTrue}
+use Rattle.std.proofs.Common.{◌≡◌, ◌≢◌, ◌⊎◌, inl, inr, ℕ, Bool, true, false, List, [], ◌∷◌, ◌++◌, map, filter, length, refl, sym, ◌∙◌, ap, subst, arith, append_assoc, length-append, Option, Some, None, is_some, IsTrue}
 use Rattle.std.specs.FinMap.{get, find}
 use Rattle.std.specs.Option.{option_map}
 use Rattle.std.proofs.lemmas.List.{append-nil, same_from_push}
 use Rattle.std.proofs.lemmas.Bool.{cases_Bool}
-use Rattle.std.proofs.lemmas.Option.{none-some, same_Some}
+use Rattle.std.proofs.lemmas.Option.{none-some}
 use Rattle.dired_text.specs.Paths.{Names, path_cmp, rest_below}
 use Rattle.dired_text.proofs.PathLemmas.{rest_below-append, rest_below-some, rest_below-same, append_cancel}
 use Rattle.tree_core.specs.declared.node.Node.{Node}
 use Rattle.tree_core.specs.FileTree.{FileTree, IsTree, Stands, IsAbsent, CanRename, moved, moved_rest, renamed, after_rename}
 use Rattle.tree_core.proofs.TreeLemmas.{get-renamed, absent_below, absent_not}
 use Rattle.edit_words.specs.declared.row.Route.{Route}
-use Rattle.edit_words.specs.declared.row.Route.TheVariants.{Stays, Named, Sent}
-use Rattle.edit_words.specs.Place.{routed, place, IsAbove}
+use Rattle.edit_words.specs.declared.row.Route.TheVariants.{Sent}
+use Rattle.edit_words.specs.Place.{routed, place}
 use Rattle.edit_words.specs.Rows.{is_same_path}
 use Rattle.edit_words.proofs.SameLemmas.{same_path, same_itself}
 use Rattle.edit_words.specs.Edited.{Entries, placed_entry, IsPlaced, Came}

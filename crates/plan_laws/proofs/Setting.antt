@@ -1,21 +1,17 @@
 -- What holds of the rows of changes that can be made.
-use Rattle.std.proofs.Common.{◌≡◌, ◌≢◌, ◌⊎◌, inl, inr, ℕ, ◌≤◌, Bool, true, false, not, ◌||◌, List, [], ◌∷◌, ◌++◌, length, refl, sym, ◌∙◌, ap, subst, append_assoc, Option, Some, None, is_some}
+use Rattle.std.proofs.Common.{◌≡◌, ◌≢◌, ℕ, ◌≤◌, Bool, true, false, not, List, [], ◌∷◌, ◌++◌, length, refl, sym, ◌∙◌, ap, subst, append_assoc, Option, Some, None}
 use Rattle.std.specs.Prelude.{Contains}
-use Rattle.std.proofs.lemmas.Bool.{cases_Bool, or_cases}
-use Rattle.std.proofs.lemmas.Option.{none-some, same_Some}
+use Rattle.std.proofs.lemmas.Option.{none-some}
 use Rattle.std.proofs.lemmas.List.Elements.{All-contains}
 use Rattle.std.proofs.lemmas.List.{same_from_push}
 use Rattle.dired_text.specs.Paths.{Names, parent}
-use Rattle.dired_text.proofs.PathLemmas.{parent-push}
 use Rattle.tree_core.specs.declared.changes.Changes.{Changes}
 use Rattle.tree_core.specs.declared.changes.Changes.TheVariants.{Edits, Removals, Creations}
-use Rattle.tree_core.specs.declared.edit.Edit.{Edit}
 use Rattle.tree_core.specs.FileTree.{FileTree, IsTree, IsDir, IsFile, Stands}
 use Rattle.tree_core.proofs.TreeLemmas.{above_stands, last_of}
 use Rattle.edit_words.specs.declared.row.Row.{Row}
 use Rattle.edit_words.specs.Place.{IsAbove}
-use Rattle.edit_words.specs.Rows.{rows, edit_row, removal_row, creation_row, written, written_of, is_elsewhere, is_elsewhere_of, is_same_path, last_name}
-use Rattle.edit_words.specs.Edited.{is_fresh}
+use Rattle.edit_words.specs.Rows.{rows, edit_row, removal_row, creation_row, written, is_elsewhere, is_elsewhere_of, is_same_path, last_name}
 use Rattle.edit_words.specs.WellFormed.{IsWellFormed, IsEdit, LinesRise, CanBeAsked, max_changes}
 use Rattle.edit_words.proofs.SameLemmas.{same_path}
 use Rattle.edit_laws.proofs.ListLemmas.{map_parts}

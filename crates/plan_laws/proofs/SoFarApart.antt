@@ -1,33 +1,25 @@
 -- Between two moves the places are apart too: each path is parked in the staging directory, rests where it was, or went where its
 -- change sends it.
-use Rattle.std.proofs.Common.{◌≡◌, ◌≢◌, ◌⊎◌, inl, inr, ℕ, ◌+◌, ◌<◌, ◌≤◌, ◌^◌, Bool, true, false, cond, not, ◌&&◌, ◌||◌, List, [], ◌∷◌, ◌++◌, length, refl, sym, ◌∙◌, ap, subst, arith, append_assoc, length-append, Option, Some, None, is_some, IsTrue}
+use Rattle.std.proofs.Common.{◌≡◌, ◌≢◌, ◌⊎◌, inl, inr, ℕ, Bool, true, false, not, ◌&&◌, List, [], ◌∷◌, ◌++◌, length, refl, sym, ◌∙◌, ap, subst, arith, append_assoc, length-append, Option, Some, None, is_some, IsTrue}
 use Rattle.std.specs.Prelude.{Contains}
-use Rattle.std.proofs.lemmas.Bool.{cond-true, cond-false, cases_Bool, not-true, not_from_false, and_from}
+use Rattle.std.proofs.lemmas.Bool.{cond-true, cond-false, cases_Bool, not_from_false}
 use Rattle.std.proofs.lemmas.Option.{none-some, same_Some}
-use Rattle.std.proofs.lemmas.List.{append-nil, same_from_push}
+use Rattle.std.proofs.lemmas.List.{append-nil}
 use Rattle.dired_text.specs.Paths.{Names, parent, rest_below, is_below}
 use Rattle.dired_text.proofs.PathLemmas.{rest_below-append}
-use Rattle.commit_steps.specs.Staging.{staging, staging_name, staged, temporary, fresh_name, held}
-use Rattle.tree_core.specs.FileTree.{FileTree, IsTree, IsDir, Stands}
+use Rattle.commit_steps.specs.Staging.{staging, staged}
+use Rattle.tree_core.specs.FileTree.{FileTree, IsDir, Stands}
 use Rattle.tree_core.proofs.TreeLemmas.{dir_stands, above_stands, absent_not}
 use Rattle.edit_words.specs.declared.row.Row.{Row}
 use Rattle.edit_words.specs.declared.row.Route.{Route}
 use Rattle.edit_words.specs.declared.row.Route.TheVariants.{Stays, Named, Sent}
-use Rattle.edit_words.specs.Place.{routed, place, IsAbove}
+use Rattle.edit_words.specs.Place.{routed, IsAbove}
 use Rattle.edit_words.specs.Refusals.{staging as reserved}
-use Rattle.edit_words.specs.Rows.{row_from, is_source, route_to, written, is_at, is_elsewhere, is_elsewhere_of, is_same_path, last_name, is_victim, is_removed, is_kept, route_of}
-use Rattle.edit_words.specs.Edited.{is_fresh}
-use Rattle.edit_laws.proofs.ListLemmas.{any_from}
+use Rattle.edit_words.specs.Rows.{row_from, is_source, route_to, written, is_elsewhere, is_elsewhere_of, is_same_path, last_name, is_victim}
 use Rattle.edit_laws.proofs.PlaceLemmas.{IsApart, by_last, push_not_root}
-use Rattle.edit_laws.proofs.PlacedIsTree.{Stayed}
-use Rattle.edit_laws.proofs.RowLemmas.{AreRows, row_from-some, row_there, is_at-same, one_row, written-to, written-none, route_to-written, is_written-from, none_removed, kept_from, firm_far, not_victim}
-use Rattle.plan_moves.specs.Waiting.{Waiting, is_free}
-use Rattle.plan_moves.specs.Moves.{Spots}
-use Rattle.plan_moves.specs.SoFar.{wait_of, route_waiting, route_so_far_by, IsWaitingWell, IsSpot, put_aside, was_made}
-use Rattle.plan_moves.proofs.Number.{own_lines}
-use Rattle.plan_laws.proofs.StagedNames.{one_staging, staged_name, held_no_temporary, held_no_fresh}
+use Rattle.edit_laws.proofs.RowLemmas.{row_from-some, one_row, written-to, written-none, route_to-written, is_written-from, not_victim}
+use Rattle.plan_laws.proofs.StagedNames.{one_staging, staged_name}
 use Rattle.plan_laws.proofs.Setting.{ArePlannedRows}
-use Rattle.plan_laws.proofs.WaitLemmas.{waits_as}
 
 pub route_to-sent : (p v w : Names) → route_to p (Some v) ≡ Sent w → (v ≡ w) × (is_same_path (parent p) (parent v) ≡ false)
 route_to-sent p v w is = go (cases_Bool (is_same_path (parent p) (parent v)))

@@ -1,10 +1,8 @@
 -- The names in the staging directory differ.
-use Rattle.std.proofs.Common.{◌≡◌, ◌≢◌, ℕ, false, true, ◌<◌, ◌^◌, ◌+◌, List, [], ◌∷◌, ◌++◌, length, refl, sym, ◌∙◌, ap, arith, codes, length-append}
+use Rattle.std.proofs.Common.{◌≡◌, ◌≢◌, ℕ, false, true, ◌<◌, ◌^◌, List, [], ◌∷◌, ◌++◌, refl, ap}
 use Rattle.std.proofs.lemmas.Bool.{eq-eqb}
 use Rattle.std.proofs.lemmas.Fmt.{decimal_injective}
-use Rattle.std.specs.Prelude.{decimal}
-use Rattle.dired_text.specs.Paths.{Names}
-use Rattle.commit_steps.specs.Staging.{staging, staging_name, staged, numbered, temporary, held, fresh_name}
+use Rattle.commit_steps.specs.Staging.{staging, staging_name, staged, temporary, held, fresh_name}
 use Rattle.edit_words.specs.Refusals.{staging as reserved}
 
 abbrev rest_of : List ℕ → List ℕ

@@ -1,9 +1,9 @@
 -- One rename of a source leads on to the tree so far in which it has another route.
-use Rattle.std.proofs.Common.{◌≡◌, ◌≢◌, ◌⊎◌, inl, inr, ℕ, Bool, true, false, not, ◌||◌, List, [], ◌∷◌, ◌++◌, refl, sym, ◌∙◌, ap, subst, Option, Some, None, is_some, IsTrue}
+use Rattle.std.proofs.Common.{◌≡◌, ◌≢◌, inl, inr, ℕ, true, false, not, List, [], ◌∷◌, ◌++◌, refl, sym, ◌∙◌, ap, subst, Option, Some, None, is_some}
 use Rattle.std.specs.Prelude.{Contains}
 use Rattle.std.specs.FinMap.{get, find}
 use Rattle.std.proofs.lemmas.Bool.{or_cases, or_parts}
-use Rattle.std.proofs.lemmas.Option.{none-some, same_Some}
+use Rattle.std.proofs.lemmas.Option.{none-some}
 use Rattle.std.proofs.lemmas.List.{append-nil}
 use Rattle.dired_text.specs.Paths.{Names, AreNames, path_cmp, parent, rest_below}
 use Rattle.dired_text.proofs.PathLemmas.{rest_below-same}
@@ -16,7 +16,7 @@ use Rattle.edit_words.specs.declared.row.Route.{Route}
 use Rattle.edit_words.specs.declared.row.Route.TheVariants.{Sent}
 use Rattle.edit_words.specs.Place.{routed, place}
 use Rattle.edit_words.specs.Rows.{row_from, last_name}
-use Rattle.edit_words.specs.Edited.{is_fresh, missing, Came}
+use Rattle.edit_words.specs.Edited.{is_fresh, missing}
 use Rattle.edit_words.specs.Sight.{sight_of}
 use Rattle.edit_laws.proofs.PlaceLemmas.{IsApart, place-apart}
 use Rattle.edit_laws.proofs.PlacedIsTree.{some_of}

@@ -1,15 +1,13 @@
 -- How a change of some line waits, before and after a move, and which one is the deepest.
-use Rattle.std.proofs.Common.{◌≡◌, ◌≢◌, ◌⊎◌, inl, inr, ℕ, ◌+◌, ◌≤◌, ◌<◌, ◌==◌, Bool, true, false, cond, not, ◌&&◌, ◌||◌, nat_lt, List, [], ◌∷◌, map, filter, length, refl, sym, ◌∙◌, ap, subst, arith, Option, Some, None, is_some, if◌then◌else◌}
+use Rattle.std.proofs.Common.{◌≡◌, ◌⊎◌, inl, inr, ℕ, ◌≤◌, ◌<◌, ◌==◌, Bool, true, false, nat_lt, List, [], ◌∷◌, length, refl, sym, ◌∙◌, ap, subst, arith, Option, Some, None, if◌then◌else◌}
 use Rattle.std.specs.Prelude.{Contains}
-use Rattle.std.specs.Ordering.{is_lt}
 use Rattle.std.proofs.lemmas.Bool.{cond-true, cond-false, cases_Bool, not_from_true, not_from_false, false_from_ne_true, eqb-true, eq-eqb, or_parts, or_cases, and_parts, ltb-true, ltb-false}
 use Rattle.std.proofs.lemmas.Option.{none-some, same_Some}
-use Rattle.dired_text.specs.Paths.{Names, path_cmp}
-use Rattle.edit_words.specs.declared.row.Row.{Row}
+use Rattle.dired_text.specs.Paths.{Names}
 use Rattle.edit_laws.proofs.ListLemmas.{contains_head, contains_tail, contains_cases, contains_none, contains_map}
 use Rattle.plan_moves.specs.Waiting.{Waiting, HasDifferentLines, without, put_away, deepest, deeper, is_before}
 use Rattle.plan_moves.specs.SoFar.{wait_of}
-use Rattle.plan_moves.proofs.Order.{put, put-line}
+use Rattle.plan_moves.proofs.Order.{put}
 use Rattle.plan_moves.proofs.Number.{all_away, deepest-contains, distinct_put}
 use Rattle.plan_moves.proofs.AtMost.{deepest-here}
 

@@ -1,33 +1,33 @@
 -- What still waits keeps what is above it at its place: at first, and after each move.
-use Rattle.std.proofs.Common.{◌≡◌, ◌≢◌, ◌⊎◌, inl, inr, ℕ, ◌+◌, ◌≤◌, ◌<◌, ◌^◌, ◌==◌, Bool, true, false, cond, not, ◌&&◌, ◌||◌, List, [], ◌∷◌, ◌++◌, map, filter, length, refl, sym, ◌∙◌, ap, subst, arith, length-append, Option, Some, None, is_some, if◌then◌else◌}
+use Rattle.std.proofs.Common.{◌≡◌, ◌⊎◌, inl, inr, ℕ, ◌+◌, ◌≤◌, ◌<◌, ◌^◌, ◌==◌, Bool, true, false, cond, not, ◌&&◌, ◌||◌, List, [], ◌∷◌, filter, length, refl, sym, ◌∙◌, ap, subst, arith, length-append, Option, Some, None, is_some}
 use Rattle.std.specs.Prelude.{Contains}
 use Rattle.std.specs.List.{list_any}
-use Rattle.std.proofs.lemmas.Bool.{cond-true, cond-false, cases_Bool, not-true, not_from_true, not_from_false, false_from_ne_true, eqb-true, eq-eqb, or_parts, or_cases, or_left, or_right, and_parts, and_from}
+use Rattle.std.proofs.lemmas.Bool.{cond-true, cond-false, cases_Bool, not-true, not_from_false, false_from_ne_true, eqb-true, eq-eqb, or_parts, or_cases, or_left, or_right, and_parts, and_from}
 use Rattle.std.proofs.lemmas.Option.{none-some, same_Some}
 use Rattle.dired_text.specs.Paths.{Names}
 use Rattle.commit_steps.specs.Staging.{staged, temporary, fresh_name}
 use Rattle.tree_core.specs.FileTree.{FileTree, IsDir}
 use Rattle.edit_words.specs.declared.row.Row.{Row}
-use Rattle.edit_words.specs.Place.{IsAbove, is_above}
-use Rattle.edit_words.specs.Rows.{row_from, written, written_of, is_at, is_elsewhere}
+use Rattle.edit_words.specs.Place.{IsAbove}
+use Rattle.edit_words.specs.Rows.{row_from, written, written_of, is_at}
 use Rattle.edit_words.specs.Edited.{is_fresh}
-use Rattle.edit_words.specs.WellFormed.{LinesRise, max_changes}
+use Rattle.edit_words.specs.WellFormed.{LinesRise}
 use Rattle.edit_words.proofs.AboveLemmas.{above_decides}
 use Rattle.edit_words.proofs.FirstLemmas.{rise_rest, rise_first}
-use Rattle.edit_laws.proofs.ListLemmas.{contains_head, contains_tail, contains_cases, contains_none, contains_filter, filter_parts, map_parts, any_from, any_parts, any_none}
+use Rattle.edit_laws.proofs.ListLemmas.{contains_head, contains_tail, contains_cases, contains_none, filter_parts, map_parts, any_from, any_parts, any_none}
 use Rattle.edit_laws.proofs.PlacedIsTree.{some_of}
-use Rattle.edit_laws.proofs.RowLemmas.{row_from-some, is_at-true, is_at-same}
-use Rattle.plan_moves.specs.Waiting.{Waiting, waiting, HasDifferentLines, NoneReady, is_ready, is_free, is_unkept, is_in_place, is_above_source, keeps_in_place, at_sources, without, put_away, deepest}
+use Rattle.edit_laws.proofs.RowLemmas.{row_from-some, is_at-true}
+use Rattle.plan_moves.specs.Waiting.{Waiting, waiting, NoneReady, is_ready, is_free, is_unkept, is_in_place, is_above_source, keeps_in_place, at_sources, without, put_away, deepest}
 use Rattle.plan_moves.specs.Moves.{Spots, with_spot, fresh_spots}
 use Rattle.plan_moves.specs.SoFar.{wait_of, IsWaitingWell, IsSpot, put_aside, was_made}
 use Rattle.plan_moves.proofs.FilterLemmas.{any_less}
-use Rattle.plan_moves.proofs.Order.{put, put-line}
+use Rattle.plan_moves.proofs.Order.{put}
 use Rattle.plan_moves.proofs.Number.{own_lines, distinct_less, distinct_put, deepest-contains}
 use Rattle.plan_moves.proofs.AtMost.{here_are, here_less, put_one, deepest-here}
 use Rattle.plan_moves.proofs.StepCount.{waiting_listed, waiting_different}
 use Rattle.plan_laws.proofs.StagedNames.{staged_name, temporary_apart, fresh_apart, temporary_no_fresh}
 use Rattle.plan_laws.proofs.Setting.{ArePlannedRows, above_dir, above_in_place_source}
-use Rattle.plan_laws.proofs.WaitLemmas.{wait_of-contains, waits_as, wait_of-without, gone-without, wait_of-put, away-put, put_itself, HaveSources, longest}
+use Rattle.plan_laws.proofs.WaitLemmas.{wait_of-contains, waits_as, wait_of-without, wait_of-put, away-put, put_itself, HaveSources, longest}
 
 -- ---- what waits at first
 
