@@ -1,0 +1,3 @@
+pub mod ChangeLemmas
+pub mod ReadyLemmas
+pub mod MovedLemmas
