@@ -1,7 +1,7 @@
 -- Least renames, for edits in one directory.
 use Rattle.std.specs.Prelude.{◌≡◌, ℕ, ◌≤◌, List, [], ◌∷◌, ◌++◌, length, Some, None, false, Contains}
-use Rattle.dired_text.specs.Paths.{Names, moved}
-use Rattle.tree_core.specs.FileTree.{FileTree, CanRename, Stands, renamed}
+use Rattle.dired_text.specs.Paths.{Names}
+use Rattle.tree_core.specs.FileTree.{FileTree, CanRename, Stands, moved, renamed}
 use Rattle.edit_words.specs.declared.row.Row.{Row}
 use Rattle.edit_words.specs.Place.{place}
 use Rattle.edit_words.specs.Rows.{route_of, is_victim}

@@ -1,11 +1,14 @@
 -- The steps of a plan, and their number.
-use Rattle.std.specs.Prelude.{◌≡◌, ℕ, ◌+◌, List, [], ◌∷◌, ◌++◌, map, length, Option, Some, None, if◌then◌else◌, is_some, not, ◌&&◌, ◌||◌, count_by}
+use Rattle.std.specs.Prelude.{◌≡◌, ℕ, ◌+◌, Bool, List, [], ◌∷◌, ◌++◌, map, length, Option, Some, None, if◌then◌else◌, is_some, not, ◌&&◌, ◌||◌, count_by}
 use Rattle.std.specs.List.{flat_map}
 use Rattle.dired_text.specs.Paths.{Names}
 use Rattle.commit_steps.specs.declared.step.Step.{Step}
 use Rattle.commit_steps.specs.declared.step.Step.TheVariants.{MakeDir, Rename, Mode}
 use Rattle.commit_steps.specs.Staging.{staged, held}
+use Rattle.tree_core.specs.declared.changes.Changes.{Changes}
 use Rattle.edit_words.specs.declared.row.Row.{Row}
+use Rattle.edit_words.specs.Rows.{rows}
+use Rattle.edit_words.specs.WellFormed.{AreAsked}
 use Rattle.edit_words.specs.Refusals.{victim_of}
 use Rattle.edit_words.specs.Sight.{Sight}
 use Rattle.edit_words.specs.Edited.{is_fresh}
@@ -35,7 +38,7 @@ holds n [] = []
 holds n (p ∷ ps) = Rename p (staged (held n)) ∷ holds (n + 1) ps
 
 abbrev pub mode_step : ModeChange → Step
-mode_step m = Mode m.0 m.1.0 m.1.1
+mode_step m = Mode m.0 m.1 m.2
 
 -- First what is put aside, then the directories that are made, then the moves, and the modes at last.
 pub record IsPlan (sight : Sight) (rs : List Row) (steps : List Step) : Type 0 where
@@ -56,3 +59,8 @@ is_moving r = is_some r.to && not (is_fresh r)
 abbrev pub step_count : Sight → List Row → List Names → ℕ
 step_count sight rs dirs =
     length (victims_of sight rs) + count_by is_given_up rs + length dirs + count_by is_moving rs + count_by is_fresh rs + length (mode_changes sight rs) + knots (waiting rs)
+
+-- Every plan of changes that can be asked for has this number of steps.
+abbrev pub PlansAreCounted : Type 0
+PlansAreCounted = (sight : Sight) (changes : Changes) (steps : List Step) → AreAsked changes → (plan : IsPlan sight (rows changes) steps)
+    → length steps ≡ step_count sight (rows changes) plan.dirs

@@ -1,19 +1,19 @@
 -- The tree between two moves: the old tree, placed by what was done so far.
-use Rattle.std.specs.Prelude.{◌≡◌, ℕ, ◌+◌, ◌<◌, ◌==◌, Bool, true, false, List, [], ◌∷◌, ◌++◌, map, filter, Option, Some, None, if◌then◌else◌, is_some, Contains}
+use Rattle.std.specs.Prelude.{◌≡◌, ℕ, ◌+◌, ◌<◌, ◌≤◌, ◌^◌, ◌==◌, Bool, true, false, List, [], ◌∷◌, ◌++◌, map, filter, length, Option, Some, None, if◌then◌else◌, is_some, ◌||◌, Contains}
 use Rattle.std.specs.List.{zip}
 use Rattle.dired_text.specs.Paths.{Names, parent}
-use Rattle.commit_steps.specs.Staging.{staging, staged, held, temporary}
+use Rattle.commit_steps.specs.Staging.{staging, staged, held, temporary, fresh_name}
 use Rattle.tree_core.specs.declared.node.Node.{Node}
 use Rattle.tree_core.specs.declared.node.Node.TheVariants.{Dir}
 use Rattle.tree_core.specs.FileTree.{FileTree, IsTree}
 use Rattle.edit_words.specs.declared.row.Row.{Row}
 use Rattle.edit_words.specs.declared.row.Route.{Route}
-use Rattle.edit_words.specs.declared.row.Route.TheVariants.{Stays, Named, Sent}
+use Rattle.edit_words.specs.declared.row.Route.TheVariants.{Stays, Sent}
 use Rattle.edit_words.specs.Place.{routed, place, IsAbove}
 use Rattle.edit_words.specs.Rows.{row_from, route_to, written, is_same_path, last_name}
 use Rattle.edit_words.specs.Edited.{Entries, IsPlaced, placed_tree, is_fresh, missing}
 use Rattle.edit_words.specs.Sight.{sight_of}
-use Rattle.plan_moves.specs.Waiting.{Waiting, is_free, is_in_place}
+use Rattle.plan_moves.specs.Waiting.{Waiting, HasDifferentLines, at_sources, is_free, is_in_place}
 use Rattle.plan_moves.specs.Moves.{Spots}
 use Rattle.plan_moves.specs.Plan.{held_paths}
 
@@ -68,9 +68,17 @@ so_far t rs made spots ws = placed_tree (added_so_far t rs made spots ws) (λ p.
 abbrev pub IsSoFar : FileTree → List Row → List Node → Spots → List Waiting → FileTree → Type 0
 IsSoFar t rs made spots ws now = IsPlaced (added_so_far t rs made spots ws) (λ p. true) (place (route_so_far t rs spots ws)) same_node t now
 
+-- where a change that is away waits: put aside as a temporary entry whose number is below n, or as an entry that was made
+pub data IsSpot (n : ℕ) (path : Names) : Type 0 where
+  put_aside : (m : ℕ) → m < n → path ≡ staged (temporary m) → IsSpot n path
+  was_made : (m : ℕ) → m < 2 ^ 32 → path ≡ staged (fresh_name m) → IsSpot n path
+
 -- What else holds between two moves: whatever still waits below a path keeps that path at its place.
 pub record IsWaitingWell (rs : List Row) (n : ℕ) (spots : Spots) (ws : List Waiting) : Type 0 where
   pub listed : (w : Waiting) → Contains ws w → Contains rs w.row
+  pub different : HasDifferentLines ws
+  -- what waits is made, or has a new path
+  pub waits : (w : Waiting) → Contains ws w → (is_fresh w.row || is_some w.row.to) ≡ true
   pub fresh_are_away : (w : Waiting) → Contains ws w → is_fresh w.row ≡ true → w.is_away ≡ true
   -- above a source at which a change waits, each edit with a new path waits at its source
   pub above_source : (w : Waiting) (s a : Names) (o : Row) → Contains ws w → w.is_away ≡ false → w.row.source ≡ Some s → IsAbove a s
@@ -80,9 +88,11 @@ pub record IsWaitingWell (rs : List Row) (n : ℕ) (spots : Spots) (ws : List Wa
       → IsAbove a (written w.row) → row_from rs a ≡ Some o → is_some o.to ≡ true → wait_of ws o.line ≡ Some false
   -- where a change was written, no other waits at its source
   pub written_free : (r : Row) (w : Names) → Contains rs r → r.to ≡ Some w → wait_of ws r.line ≡ None → is_free ws w ≡ true
-  -- the spots of those that are away are different, and no temporary name from n on is among them
+  -- those that are away are in the staging directory, each at a spot of its own, and no temporary name from n on is taken
+  pub spots_staged : (w : Waiting) → Contains ws w → w.is_away ≡ true → IsSpot n (spots w.row.line)
+  -- each that waits at its source may get one of these names
+  pub room : n + length (at_sources ws) ≤ length rs
   pub spots_apart : (v w : Waiting) → Contains ws v → Contains ws w → v.is_away ≡ true → w.is_away ≡ true → spots v.row.line ≡ spots w.row.line → v ≡ w
-  pub spots_used : (w : Waiting) (m : ℕ) → Contains ws w → w.is_away ≡ true → spots w.row.line ≡ staged (temporary m) → m < n
 
 -- what holds between two moves
 pub record Invariant (t : FileTree) (rs : List Row) (made : List Node) (n : ℕ) (spots : Spots) (ws : List Waiting) (now : FileTree) : Type 0 where

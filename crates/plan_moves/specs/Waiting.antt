@@ -18,6 +18,10 @@ abbrev pub waiting : List Row → List Waiting
 waiting [] = []
 waiting (r ∷ rs) = if is_fresh r || is_some r.to then (record { row = r; is_away = is_fresh r }) ∷ waiting rs else waiting rs
 
+-- those that wait at their sources
+abbrev pub at_sources : List Waiting → List Waiting
+at_sources ws = filter (λ (w : Waiting). not w.is_away) ws
+
 -- the lines of the changes that wait are different
 abbrev pub HasDifferentLines : List Waiting → Type 0
 HasDifferentLines [] = Unit {0}

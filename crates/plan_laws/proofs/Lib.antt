@@ -1,0 +1,4 @@
+pub mod StagedNames
+pub mod WaitLemmas
+pub mod Setting
+pub mod WellLemmas
