@@ -111,13 +111,15 @@ waits (c ∷ cs) (suc i) r away at to e = go c.stand (waits cs i r away at to e)
 
 pub who_waits : (cs : List Change) (w : Waiting) → Contains (waits_of cs) w → (i : ℕ) × (at : Names) × (to : Names) × (slice_get cs i ≡ Some (change w.row (Waits w.is_away at to)))
 who_waits [] w h = absurd (contains_none w h)
-who_waits (c ∷ cs) w h = go c.stand refl h
+who_waits (c ∷ cs) w h = go (who_waits cs w) c.stand refl h
   where
-    later : Contains (waits_of cs) w → (i : ℕ) × (at : Names) × (to : Names) × (slice_get (c ∷ cs) i ≡ Some (change w.row (Waits w.is_away at to)))
-    later k = let m = who_waits cs w k in (suc m.0, m.1)
-    go : (s : Stand) → c.stand ≡ s → Contains (wait_by c.row s (waits_of cs)) w → (i : ℕ) × (at : Names) × (to : Names) × (slice_get (c ∷ cs) i ≡ Some (change w.row (Waits w.is_away at to)))
-    go Left e k = later k
-    go (Waits b q t) e k = elim (contains_cases _ w (waits_of cs) k) [
-      | inl same ↦ (zero, (q, (t, subst (λ (v : Waiting). Some c ≡ Some (change v.row (Waits v.is_away q t))) same (ap (λ (s : Stand). Some (change c.row s)) e))))
-      | inr more ↦ later more
+    later : (Contains (waits_of cs) w → (i : ℕ) × (at : Names) × (to : Names) × (slice_get cs i ≡ Some (change w.row (Waits w.is_away at to))))
+        → Contains (waits_of cs) w → (i : ℕ) × (at : Names) × (to : Names) × (slice_get (c ∷ cs) i ≡ Some (change w.row (Waits w.is_away at to)))
+    later more k = let m = more k in (suc m.0, m.1, m.2, m.3)
+    go : (Contains (waits_of cs) w → (i : ℕ) × (at : Names) × (to : Names) × (slice_get cs i ≡ Some (change w.row (Waits w.is_away at to))))
+        → (s : Stand) → c.stand ≡ s → Contains (wait_by c.row s (waits_of cs)) w → (i : ℕ) × (at : Names) × (to : Names) × (slice_get (c ∷ cs) i ≡ Some (change w.row (Waits w.is_away at to)))
+    go more Left e k = later more k
+    go more (Waits b q t) e k = elim (contains_cases _ w (waits_of cs) k) [
+      | inl same ↦ (zero, q, t, subst (λ (v : Waiting). Some c ≡ Some (change v.row (Waits v.is_away q t))) same (ap (λ (s : Stand). Some (change c.row s)) e))
+      | inr rest ↦ later more rest
     ]

@@ -1,3 +1,5 @@
 pub mod ChangeLemmas
 pub mod ReadyLemmas
 pub mod MovedLemmas
+pub mod FirstLemmas
+pub mod NameLemmas

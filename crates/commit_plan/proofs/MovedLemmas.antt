@@ -3,6 +3,7 @@ use Rattle.std.proofs.Common.{◌≡◌, ◌⊎◌, inl, inr, ℕ, zero, suc, �
 use Rattle.std.proofs.Math.ListN.{set}
 use Rattle.std.specs.List.{slice_get}
 use Rattle.std.proofs.lemmas.Bool.{cases_Bool}
+use Rattle.std.proofs.lemmas.List.{append-nil}
 use Rattle.std.proofs.lemmas.Option.{same_Some}
 use Rattle.dired_text.specs.Paths.{Names}
 use Rattle.commit_steps.specs.declared.step.Step.{Step}
@@ -13,11 +14,11 @@ use Rattle.edit_words.specs.Edited.{is_fresh}
 use Rattle.edit_words.specs.Rows.{written}
 use Rattle.plan_moves.specs.Waiting.{Waiting, deepest, is_ready, NoneReady, put_away, waiting, without}
 use Rattle.plan_moves.specs.Moves.{Moves, Spots, fresh_spots, spot_of, with_spot}
-use Rattle.plan_moves.specs.Moves.Moves.{carry, knot}
+use Rattle.plan_moves.specs.Moves.Moves.{carry, knot, over}
 use Rattle.commit_plan.specs.declared.changes.Stand.{Stand}
 use Rattle.commit_plan.specs.declared.changes.Stand.TheVariants.{Left, Waits}
 use Rattle.commit_plan.specs.declared.changes.Change.{Change}
-use Rattle.commit_plan.specs.Boards.{AreSpelled, IsCarried, IsPutAway, IsSpelledAt, Moved, change, first_changes, first_stand, is_ready_at, is_ready_in, turns, turns_by, wait_by, waits_of}
+use Rattle.commit_plan.specs.Boards.{AreSpelled, IsBest, IsCarried, IsPutAway, IsSpelledAt, Moved, change, first_changes, first_stand, is_ready_at, is_ready_in, turns, turns_by, wait_by, waits_of}
 use Rattle.commit_plan.proofs.ChangeLemmas.{HasLine, LinesApart, other_line, same_line, waits, waits_away, waits_left}
 use Rattle.commit_plan.proofs.ReadyLemmas.{spelled_at, spelled_to}
 
@@ -59,9 +60,13 @@ get_set (x ∷ cs) zero (suc k) c d e = inr e
 get_set (x ∷ cs) (suc i) zero c d e = inr e
 get_set (x ∷ cs) (suc i) (suc k) c d e = elim (get_set cs i k c d e) [ inl p ↦ inl (p.0, ap suc p.1) | inr q ↦ inr q ]
 
-at_of : Stand → Names
+abbrev pub at_of : Stand → Names
 at_of Left = []
 at_of (Waits away at to) = at
+
+abbrev pub to_of : Stand → Names
+to_of Left = []
+to_of (Waits away at to) = to
 
 -- changes of one line are one
 same_change : (cs : List Change) (i k : ℕ) (c d : Change) → LinesApart cs → slice_get cs i ≡ Some c → slice_get cs k ≡ Some d → c.row.line ≡ d.row.line → c ≡ d
@@ -135,3 +140,46 @@ moved_away rs n cs steps i new step spelled apart none by deep m =
             let stands : Waits true at2 to2 ≡ Waits false by.at by.to = ap (λ (c : Change). c.stand) same in
             cc) in
         rw other (m.stand k o at2 to2 q)
+
+-- ---- the changes after a move
+
+pub spelled_carried : (cs : List Change) (i : ℕ) (new : List Change) (step : Step) → AreSpelled cs → IsCarried cs i new step → AreSpelled new
+spelled_carried cs i new step a by = subst (λ (l : List Change). AreSpelled l) (sym by.now) (spelled_set cs i by.row Left a tt)
+
+pub apart_carried : (cs : List Change) (i : ℕ) (new : List Change) (step : Step) → LinesApart cs → IsCarried cs i new step → LinesApart new
+apart_carried cs i new step a by = subst (λ (l : List Change). LinesApart l) (sym by.now) (apart_set cs i (change by.row (Waits by.away by.at by.to)) Left a by.was)
+
+some_turns : (away : Bool) (at to : Names) → 1 ≤ turns_by (Waits away at to)
+some_turns true at to = omega arith
+some_turns false at to = omega arith
+
+pub turns_carried : (cs : List Change) (i : ℕ) (new : List Change) (step : Step) → IsCarried cs i new step → turns new < turns cs
+turns_carried cs i new step by =
+    let e : turns new ≡ turns (set cs i (change by.row Left)) = ap turns by.now in
+    omega (arith, e, turns_set cs i (change by.row (Waits by.away by.at by.to)) Left by.was, some_turns by.away by.at by.to)
+
+module _ (cs : List Change) (i : ℕ) (spot : Names) (new : List Change) (step : Step) where
+  pub spelled_away : AreSpelled cs → IsPutAway cs i spot new step → AreSpelled new
+  spelled_away a by =
+      let to = (spelled_at cs i (change by.row (Waits false by.at by.to)) a by.was).0 in
+      subst (λ (l : List Change). AreSpelled l) (sym by.now) (spelled_set cs i by.row (Waits true spot by.to) a to)
+
+  pub apart_away : LinesApart cs → IsPutAway cs i spot new step → LinesApart new
+  apart_away a by = subst (λ (l : List Change). LinesApart l) (sym by.now) (apart_set cs i (change by.row (Waits false by.at by.to)) (Waits true spot by.to) a by.was)
+
+  pub turns_away : IsPutAway cs i spot new step → turns new + 1 ≡ turns cs
+  turns_away by =
+      let e : turns new ≡ turns (set cs i (change by.row (Waits true spot by.to))) = ap turns by.now in
+      omega (arith, e, turns_set cs i (change by.row (Waits false by.at by.to)) (Waits true spot by.to) by.was)
+
+pub moved_best : (rs : List Row) (n : ℕ) (cs : List Change) (steps : List Step) (i : ℕ) (new : List Change) (step : Step) → AreSpelled cs → LinesApart cs → NoneReady (waits_of cs)
+    → IsPutAway cs i (staged (temporary n)) new step → IsBest cs cs i → Moved rs n cs steps → Moved rs (n + 1) new (steps ++ step ∷ [])
+moved_best rs n cs steps i new step spelled apart none by best m =
+    let same : change best.row (Waits false best.at best.to) ≡ change by.row (Waits false by.at by.to) = same_Some _ _ (sym best.is ∙ by.was) in
+    let deep : deepest (waits_of cs) ≡ Some (record { row = by.row; is_away = false }) = best.best ∙ ap (λ (c : Change). Some (record { row = c.row; is_away = false })) same in
+    moved_away rs n cs steps i new step spelled apart none by deep m
+
+-- no move is left
+pub moved_all : (rs : List Row) (n : ℕ) (cs : List Change) (steps : List Step) → NoneReady (waits_of cs) → deepest (waits_of cs) ≡ None → Moved rs n cs steps → Moves 0 (fresh_spots 0 rs) (waiting rs) steps
+moved_all rs n cs steps none deep m =
+    subst (λ (l : List Step). Moves 0 (fresh_spots 0 rs) (waiting rs) l) (append-nil steps) (m.rest [] (over n m.spots (waits_of cs) none deep))

@@ -1,5 +1,7 @@
 // Which changes are ready.
-ghost use Rattle.std.specs.Prelude.{◌≡◌, ◌<◌, IfNone, IfSome, length, true};
+ghost use Rattle.std.specs.Prelude.{◌≡◌, ◌<◌, ◌∷◌, List, Some, IfNone, IfSome, length, true};
+ghost use Rattle.std.specs.List.{list_any, slice_get};
+ghost use Rattle.commit_plan.specs.declared.changes.Change.{Change};
 ghost use Rattle.dired_text.specs.Paths.{parent};
 ghost use Rattle.edit_words.specs.Place.{is_above as is_above_path};
 ghost use Rattle.edit_words.specs.Rows.{is_at as is_at_path, written as written_path};
@@ -13,6 +15,7 @@ use edit_words::Row;
 /// The first change that is ready.
 pub fn first_ready(changes: &[Change]) -> Option<usize>
     requires { AreSpelled changes.now }
+    ensures within { IfSome result (λ i. i < length changes.now) }
     ensures ready { IfSome result (λ i. is_ready_at changes.now i ≡ true) }
     ensures none { IfNone result (NoneReady (waits_of changes.now)) }
 {
@@ -32,11 +35,26 @@ pub fn deepest(changes: &[Change]) -> Option<usize>
     let mut best = None;
     for back in 0..count {
         let i = count - 1 - back;
-        if is_at_source(&changes[i]) && is_better(changes, i, best) {
-            best = Some(i);
-        }
+        best = better_of(changes, i, best);
     }
     best
+}
+
+// The deeper of a change and the best so far.
+fn better_of(changes: &[Change], i: usize, best: Option<usize>) -> Option<usize>
+    requires within { i < length changes.now }
+    requires other { IfSome best (λ j. j < length changes.now) }
+    ensures best { (c : Change) (some : List Change) → slice_get changes.now i ≡ Some c → BestIn changes.now some best → BestIn changes.now (c ∷ some) result }
+    ensures within { IfSome result (λ j. j < length changes.now) }
+{
+    if !is_at_source(&changes[i]) {
+        return best;
+    }
+    if is_better(changes, i, best) {
+        Some(i)
+    } else {
+        best
+    }
 }
 
 // Whether a change is deeper than the other, if there is one.
@@ -83,7 +101,13 @@ fn is_ready(changes: &[Change], i: usize) -> bool
 fn is_free(changes: &[Change], path: &Path) -> bool
     ensures { result ≡ is_free_of (waits_of changes.now) path.now }
 {
-    !changes.iter().any(|change| is_source(change, path))
+    !has_source(changes, path)
+}
+
+fn has_source(changes: &[Change], path: &Path) -> bool
+    ensures { result ≡ list_any (is_source_now path.now) changes.now }
+{
+    changes.iter().any(|change| is_source(change, path))
 }
 
 // Whether a change waits at its source, which is this path.
@@ -119,8 +143,14 @@ fn is_unkept(changes: &[Change], source: &Option<Path>) -> bool
 {
     match source {
         None => true,
-        Some(source) => !changes.iter().any(|change| keeps(change, source)),
+        Some(source) => !has_keeper(changes, source),
     }
+}
+
+fn has_keeper(changes: &[Change], source: &Path) -> bool
+    ensures { result ≡ list_any (keeps_now source.now) changes.now }
+{
+    changes.iter().any(|change| keeps(change, source))
 }
 
 // Whether a change keeps what is above it where it is, this path.
