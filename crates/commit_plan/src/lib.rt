@@ -2,8 +2,15 @@
 #![tactic(auto)]
 
 mod changes;
+mod fresh;
+mod holds;
 mod moves;
 mod names;
+mod planned;
+mod planning;
 mod ready;
 #[cfg(test)]
 mod tests;
+
+pub use planned::Plan;
+pub use planning::plan;

@@ -8,4 +8,4 @@ pub known_name-requires : goal.known_name-requires
 known_name-requires c =
     let text : c.deref.result.now ≡ letter_of c.args.entry ++ decimal c.args.number = search rules in
     let small : c.args.number < 2 ^ 32 = search rules in
-    subst (λ (b : Bool). IsTrue b) (sym (ap (λ (l : List ℕ). is_name l) text ∙ entry_name c.args.entry c.args.number small)) tt
+    ap (λ (l : List ℕ). is_name l) text ∙ entry_name c.args.entry c.args.number small
