@@ -66,6 +66,7 @@ waits_left (c ∷ cs) (suc i) r away at to a e = go c.stand (waits_left cs i r a
   where
     w : Waiting
     w = record { row = r; is_away = away }
+
     go : (s : Stand) → waits_of (set cs i (change r Left)) ≡ without w (waits_of cs) → wait_by c.row s (waits_of (set cs i (change r Left))) ≡ without w (wait_by c.row s (waits_of cs))
     go Left p = p
     go (Waits b q t) p = rw (other_line c.row.line r.line (λ (z : c.row.line ≡ r.line). a.0 i (change r (Waits away at to)) e (sym z))) (ap (λ (ws : List Waiting). (record { row = c.row; is_away = b }) ∷ ws) p)
@@ -93,6 +94,7 @@ waits_away (c ∷ cs) (suc i) r at to spot a e = go c.stand (waits_away cs i r a
   where
     w : Waiting
     w = record { row = r; is_away = false }
+
     go : (s : Stand) → waits_of (set cs i (change r (Waits true spot to))) ≡ put_away w (waits_of cs)
         → wait_by c.row s (waits_of (set cs i (change r (Waits true spot to)))) ≡ put_away w (wait_by c.row s (waits_of cs))
     go Left p = p
@@ -116,6 +118,7 @@ who_waits (c ∷ cs) w h = go (who_waits cs w) c.stand refl h
     later : (Contains (waits_of cs) w → (i : ℕ) × (at : Names) × (to : Names) × (slice_get cs i ≡ Some (change w.row (Waits w.is_away at to))))
         → Contains (waits_of cs) w → (i : ℕ) × (at : Names) × (to : Names) × (slice_get (c ∷ cs) i ≡ Some (change w.row (Waits w.is_away at to)))
     later more k = let m = more k in (suc m.0, m.1, m.2, m.3)
+
     go : (Contains (waits_of cs) w → (i : ℕ) × (at : Names) × (to : Names) × (slice_get cs i ≡ Some (change w.row (Waits w.is_away at to))))
         → (s : Stand) → c.stand ≡ s → Contains (wait_by c.row s (waits_of cs)) w → (i : ℕ) × (at : Names) × (to : Names) × (slice_get (c ∷ cs) i ≡ Some (change w.row (Waits w.is_away at to)))
     go more Left e k = later more k

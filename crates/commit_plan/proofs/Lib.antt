@@ -3,3 +3,4 @@ pub mod ReadyLemmas
 pub mod MovedLemmas
 pub mod FirstLemmas
 pub mod NameLemmas
+pub mod HoldLemmas

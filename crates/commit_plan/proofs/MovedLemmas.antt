@@ -136,9 +136,9 @@ moved_away rs n cs steps i new step spelled apart none by deep m =
         subst (λ (x : ℕ). with_spot m.spots by.row.line (staged (temporary n)) x ≡ at2) l (rw (same_line by.row.line) a)
     by_line k o at2 to2 (inr q) =
         let other : (o.line == by.row.line) ≡ false = other_line o.line by.row.line (λ (z : o.line ≡ by.row.line).
-            let same : change o (Waits true at2 to2) ≡ change by.row (Waits false by.at by.to) = same_change cs k i _ _ apart q by.was z in
-            let stands : Waits true at2 to2 ≡ Waits false by.at by.to = ap (λ (c : Change). c.stand) same in
-            cc) in
+        let same : change o (Waits true at2 to2) ≡ change by.row (Waits false by.at by.to) = same_change cs k i _ _ apart q by.was z in
+        let stands : Waits true at2 to2 ≡ Waits false by.at by.to = ap (λ (c : Change). c.stand) same in
+        cc) in
         rw other (m.stand k o at2 to2 q)
 
 -- ---- the changes after a move

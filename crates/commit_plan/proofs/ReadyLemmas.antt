@@ -74,7 +74,6 @@ by_free x true a u e g = cc
 
 -- ---- the deepest
 
-
 deepest_more : (c : Change) (cs : List Change) → waits_at_source c.stand ≡ false → deepest (wait_by c.row c.stand (waits_of cs)) ≡ deepest (waits_of cs)
 deepest_more c cs = go c.stand
   where

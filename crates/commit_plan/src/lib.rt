@@ -9,8 +9,6 @@ mod names;
 mod planned;
 mod planning;
 mod ready;
-#[cfg(test)]
-mod tests;
 
 pub use planned::Plan;
 pub use planning::plan;

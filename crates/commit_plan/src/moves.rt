@@ -28,12 +28,7 @@ fn carry(changes: &mut Vec<Change>, i: usize) -> Step
 }
 
 // Puts a change that waits at its source into the staging directory.
-fn put_away(
-    alloc: Global,
-    changes: &mut Vec<Change>,
-    i: usize,
-    number: u32,
-) -> Result<Step, Memory>
+fn put_away(alloc: Global, changes: &mut Vec<Change>, i: usize, number: u32) -> Result<Step, Memory>
     requires within { i < length changes.old.items }
     requires waits { WaitsAtSource changes.old.items i }
     ensures { IfOk result (λ step. IsPutAway changes.old.items i (staged (temporary number)) changes.new.items step) }
