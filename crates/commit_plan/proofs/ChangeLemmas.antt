@@ -13,7 +13,7 @@ use Rattle.plan_moves.specs.Waiting.{Waiting, is_free, is_ready, is_unkept, keep
 use Rattle.commit_plan.specs.declared.changes.Stand.{Stand}
 use Rattle.commit_plan.specs.declared.changes.Stand.TheVariants.{Left, Waits}
 use Rattle.commit_plan.specs.declared.changes.Change.{Change}
-use Rattle.commit_plan.specs.Boards.{AreSpelled, IsSpelledAt, change, is_ready_at, is_ready_by, is_source_now, keeps_now, turns, turns_by, wait_by, waits_of}
+use Rattle.commit_plan.specs.Stands.{AreSpelled, IsSpelledAt, change, is_ready_at, is_ready_by, is_source_now, keeps_now, turns, turns_by, wait_by, waits_of}
 
 module _ {X : Type 0} where
   pub contains_head : (x : X) (xs : List X) → Contains (x ∷ xs) x

@@ -17,7 +17,7 @@ use Rattle.plan_moves.specs.Moves.{Moves, Spots, fresh_spots}
 use Rattle.commit_plan.specs.declared.changes.Stand.{Stand}
 use Rattle.commit_plan.specs.declared.changes.Stand.TheVariants.{Left, Waits}
 use Rattle.commit_plan.specs.declared.changes.Change.{Change}
-use Rattle.commit_plan.specs.Boards.{AreSpelled, IsSpelledAt, Moved, change, first_changes, first_stand, first_stand_by, turns, turns_by, wait_by, waits_of}
+use Rattle.commit_plan.specs.Stands.{AreSpelled, IsSpelledAt, Moved, change, first_changes, first_stand, first_stand_by, turns, turns_by, wait_by, waits_of}
 use Rattle.commit_plan.proofs.ChangeLemmas.{HasLine, LinesApart, other_line, same_line}
 
 -- ---- one row

@@ -18,7 +18,7 @@ use Rattle.plan_moves.specs.Moves.Moves.{carry, knot, over}
 use Rattle.commit_plan.specs.declared.changes.Stand.{Stand}
 use Rattle.commit_plan.specs.declared.changes.Stand.TheVariants.{Left, Waits}
 use Rattle.commit_plan.specs.declared.changes.Change.{Change}
-use Rattle.commit_plan.specs.Boards.{AreSpelled, IsBest, IsCarried, IsPutAway, IsSpelledAt, Moved, change, first_changes, first_stand, is_ready_at, is_ready_in, turns, turns_by, wait_by, waits_of}
+use Rattle.commit_plan.specs.Stands.{AreSpelled, IsBest, IsCarried, IsPutAway, IsSpelledAt, Moved, change, first_changes, first_stand, is_ready_at, is_ready_in, turns, turns_by, wait_by, waits_of}
 use Rattle.commit_plan.proofs.ChangeLemmas.{HasLine, LinesApart, other_line, same_line, waits, waits_away, waits_left}
 use Rattle.commit_plan.proofs.ReadyLemmas.{spelled_at, spelled_to}
 

@@ -9,7 +9,7 @@ use Rattle.commit_steps.specs.Numbers.{is_decimal, is_digit, is_number, IsNumber
 use Rattle.commit_steps.proofs.NumberLemmas.{decimal_is, number_holds, Digits}
 use Rattle.commit_plan.specs.declared.names.Entry.{Entry}
 use Rattle.commit_plan.specs.declared.names.Entry.TheVariants.{Temporary, Held, Fresh}
-use Rattle.commit_plan.specs.Boards.{letter_of}
+use Rattle.commit_plan.specs.Stands.{letter_of}
 use Rattle.std.proofs.lemmas.Bool.Decides.{nat_tests}
 
 le_holds : (m n : ℕ) → m ≤ n → nat_le m n ≡ true

@@ -10,7 +10,7 @@ use Rattle.plan_moves.specs.Waiting.{Waiting, deeper, deepest, is_before, is_fre
 use Rattle.commit_plan.specs.declared.changes.Stand.{Stand}
 use Rattle.commit_plan.specs.declared.changes.Stand.TheVariants.{Left, Waits}
 use Rattle.commit_plan.specs.declared.changes.Change.{Change}
-use Rattle.commit_plan.specs.Boards.{AreSpelled, BestIn, IsBest, IsSpelledAt, change, is_better_in, is_ready_at, is_ready_by, is_ready_in, is_source_now, keeps_now, source_in, wait_by, waits_at_source, waits_of}
+use Rattle.commit_plan.specs.Stands.{AreSpelled, BestIn, IsBest, IsSpelledAt, change, is_better_in, is_ready_at, is_ready_by, is_ready_in, is_source_now, keeps_now, source_in, wait_by, waits_at_source, waits_of}
 use Rattle.commit_plan.proofs.ChangeLemmas.{who_waits}
 
 -- what holds of one that waits holds of one of the changes

@@ -1,2 +1,2 @@
-pub mod Boards
+pub mod Stands
 pub mod Holding

@@ -2,7 +2,7 @@
 ghost use Rattle.std.specs.Prelude.{◌≡◌, ◌++◌, ◌≤◌, IfOk, length, is_some};
 ghost use Rattle.edit_words.specs.Edited.{is_fresh as is_fresh_row};
 ghost use Rattle.edit_words.specs.Rows.{written as written_path};
-ghost use Rattle.commit_plan.specs.Boards.{first_changes, first_stand as first_stand_of, max_rows};
+ghost use Rattle.commit_plan.specs.Stands.{first_changes, first_stand as first_stand_of, max_rows};
 
 use crate::names::{Entry, entry_path};
 use dired_text::{Memory, Path};

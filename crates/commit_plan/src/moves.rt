@@ -4,7 +4,7 @@ ghost use Rattle.edit_words.specs.WellFormed.{LinesRise};
 ghost use Rattle.plan_moves.specs.Moves.{Moves, fresh_spots};
 ghost use Rattle.plan_moves.specs.Waiting.{waiting};
 ghost use Rattle.commit_steps.specs.Staging.{staged, temporary};
-ghost use Rattle.commit_plan.specs.Boards.{IsCarried, IsPutAway, WaitsAtSource, is_ready_at, max_rows};
+ghost use Rattle.commit_plan.specs.Stands.{IsCarried, IsPutAway, WaitsAtSource, is_ready_at, max_rows};
 
 use crate::changes::{Change, Stand, changes_of};
 use crate::names::{Entry, entry_path};
@@ -31,7 +31,7 @@ fn carry(changes: &mut Vec<Change>, i: usize) -> Step
 fn put_away(alloc: Global, changes: &mut Vec<Change>, i: usize, number: u32) -> Result<Step, Memory>
     requires within { i < length changes.old.items }
     requires waits { WaitsAtSource changes.old.items i }
-    ensures { IfOk result (λ step. IsPutAway changes.old.items i (staged (temporary number)) changes.new.items step) }
+    ensures { IfOk result (IsPutAway changes.old.items i (staged (temporary number)) changes.new.items) }
 {
     let spot = entry_path(alloc, Entry::Temporary, number)?;
     let to_spot = spot.copy()?;

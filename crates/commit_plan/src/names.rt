@@ -2,7 +2,7 @@
 ghost use Rattle.std.specs.Prelude.{◌≡◌, IfOk, IsTrue};
 ghost use Rattle.dired_text.specs.Paths.{is_name};
 ghost use Rattle.commit_steps.specs.Staging.{numbered, staged};
-ghost use Rattle.commit_plan.specs.Boards.{letter_of};
+ghost use Rattle.commit_plan.specs.Stands.{letter_of};
 
 use dired_text::{Memory, Name, Path};
 use std::alloc::Global;

@@ -1,12 +1,11 @@
 // Which changes are ready.
-ghost use Rattle.std.specs.Prelude.{◌≡◌, ◌<◌, ◌∷◌, List, Some, IfNone, IfSome, length, true};
-ghost use Rattle.std.specs.List.{list_any, slice_get};
-ghost use Rattle.commit_plan.specs.declared.changes.Change.{Change};
+ghost use Rattle.std.specs.Prelude.{◌≡◌, ◌<◌, IfNone, IfSome, length, true};
+ghost use Rattle.std.specs.List.{list_any};
 ghost use Rattle.dired_text.specs.Paths.{parent};
 ghost use Rattle.edit_words.specs.Place.{is_above as is_above_path};
 ghost use Rattle.edit_words.specs.Rows.{is_at as is_at_path, written as written_path};
 ghost use Rattle.plan_moves.specs.Waiting.{NoneReady, is_before as is_before_source, is_above_source as is_above_source_of, is_free as is_free_of, is_in_place as is_in_place_row, is_unkept as is_unkept_of};
-ghost use Rattle.commit_plan.specs.Boards.{AreSpelled, BestIn, is_better_in, is_ready_at, is_source_now, keeps_now, waits_at_source, waits_of};
+ghost use Rattle.commit_plan.specs.Stands.{AreSpelled, BestIn, IsBestWith, is_better_in, is_ready_at, is_source_now, keeps_now, waits_at_source, waits_of};
 
 use crate::changes::{Change, Stand};
 use dired_text::{Name, Path, rest_below};
@@ -44,7 +43,7 @@ pub fn deepest(changes: &[Change]) -> Option<usize>
 fn better_of(changes: &[Change], i: usize, best: Option<usize>) -> Option<usize>
     requires within { i < length changes.now }
     requires other { IfSome best (λ j. j < length changes.now) }
-    ensures best { (c : Change) (some : List Change) → slice_get changes.now i ≡ Some c → BestIn changes.now some best → BestIn changes.now (c ∷ some) result }
+    ensures best { IsBestWith changes.now i best result }
     ensures within { IfSome result (λ j. j < length changes.now) }
 {
     if !is_at_source(&changes[i]) {

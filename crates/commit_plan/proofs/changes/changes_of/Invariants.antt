@@ -1,5 +1,5 @@
 use Rattle.std.proofs.Common.{◌≡◌, ◌+◌, ◌≤◌, ◌++◌, length}
-use Rattle.commit_plan.specs.Boards.{first_changes, max_rows}
+use Rattle.commit_plan.specs.Stands.{first_changes, max_rows}
 use Rattle.commit_plan.proofs.changes.changes_of.Given as goal
 
 abbrev pub invariant-loop-row : goal.invariant-loop-row

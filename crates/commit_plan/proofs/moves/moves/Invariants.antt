@@ -1,5 +1,5 @@
 use Rattle.std.proofs.Common.{◌+◌, ◌*◌, ◌≤◌}
-use Rattle.commit_plan.specs.Boards.{AreSpelled, Moved, max_rows, turns}
+use Rattle.commit_plan.specs.Stands.{AreSpelled, Moved, max_rows, turns}
 use Rattle.commit_plan.proofs.ChangeLemmas.{LinesApart}
 use Rattle.commit_plan.proofs.moves.moves.Given as goal
 

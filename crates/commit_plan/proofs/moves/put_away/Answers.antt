@@ -11,7 +11,7 @@ use Rattle.edit_words.specs.declared.row.Row.{Row}
 use Rattle.commit_plan.specs.declared.changes.Stand.{Stand}
 use Rattle.commit_plan.specs.declared.changes.Stand.TheVariants.{Left, Waits}
 use Rattle.commit_plan.specs.declared.changes.Change.{Change}
-use Rattle.commit_plan.specs.Boards.{change}
+use Rattle.commit_plan.specs.Stands.{change}
 use Rattle.commit_plan.proofs.MovedLemmas.{at_of, to_of}
 use Rattle.commit_plan.proofs.moves.put_away.Goals as goal
 

@@ -1,6 +1,6 @@
 use Rattle.std.proofs.Common.{◌≡◌, ◌++◌, ◌<◌, ◌^◌, ap, sym, subst, ◌∙◌, decimal, rules, Bool, List, ℕ, IsTrue}
 use Rattle.dired_text.specs.Paths.{is_name}
-use Rattle.commit_plan.specs.Boards.{letter_of}
+use Rattle.commit_plan.specs.Stands.{letter_of}
 use Rattle.commit_plan.proofs.NameLemmas.{entry_name}
 use Rattle.commit_plan.proofs.names.entry_name.Goals as goal
 

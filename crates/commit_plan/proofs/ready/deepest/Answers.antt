@@ -1,5 +1,5 @@
 use Rattle.std.proofs.Common.{◌≡◌, ◌+◌, ◌-◌, ◌<◌, length, arith, rules, subst, sym, ℕ, drop, suc}
-use Rattle.commit_plan.specs.Boards.{BestIn}
+use Rattle.commit_plan.specs.Stands.{BestIn}
 use Rattle.commit_plan.proofs.ReadyLemmas.{best_more}
 use Rattle.commit_plan.proofs.ready.deepest.Goals as goal
 

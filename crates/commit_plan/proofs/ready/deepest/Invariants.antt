@@ -1,5 +1,5 @@
 use Rattle.std.proofs.Common.{◌<◌, ◌-◌, IfSome, drop, length}
-use Rattle.commit_plan.specs.Boards.{BestIn}
+use Rattle.commit_plan.specs.Stands.{BestIn}
 use Rattle.commit_plan.proofs.ready.deepest.Given as goal
 
 abbrev pub invariant-loop-back : goal.invariant-loop-back

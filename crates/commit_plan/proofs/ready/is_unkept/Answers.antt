@@ -1,7 +1,7 @@
 use Rattle.std.proofs.Common.{Bool, List, Option, not, ap, sym, subst, ◌∙◌, ◌≡◌, Some, rules}
 use Rattle.dired_text.specs.Paths.{Names}
 use Rattle.plan_moves.specs.Waiting.{is_unkept}
-use Rattle.commit_plan.specs.Boards.{waits_of}
+use Rattle.commit_plan.specs.Stands.{waits_of}
 use Rattle.commit_plan.proofs.ReadyLemmas.{any_keeper}
 use Rattle.commit_plan.proofs.ready.is_unkept.Goals as goal
 

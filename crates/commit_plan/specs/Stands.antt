@@ -136,6 +136,10 @@ abbrev pub BestIn : List Change → List Change → Option ℕ → Type 0
 BestIn cs some None = deepest (waits_of some) ≡ None
 BestIn cs some (Some j) = IsBest cs some j
 
+-- It is the best of some, and then the other one is the best of these and the change i.
+abbrev pub IsBestWith : List Change → ℕ → Option ℕ → Option ℕ → Type 0
+IsBestWith cs i best other = (c : Change) (some : List Change) → slice_get cs i ≡ Some c → BestIn cs some best → BestIn cs (c ∷ some) other
+
 -- ---- one move
 
 -- The change i is carried out by this step.
