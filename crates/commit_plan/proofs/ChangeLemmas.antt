@@ -1,19 +1,17 @@
 -- Lists of changes, and those of them that wait.
-use Rattle.std.proofs.Common.{◌≡◌, ◌≢◌, ◌⊎◌, inl, inr, ℕ, zero, suc, ◌==◌, ◌+◌, ◌<◌, ◌≤◌, Bool, true, false, cond, if◌then◌else◌, not, ◌&&◌, ◌||◌, List, [], ◌∷◌, ◌++◌, map, filter, length, refl, sym, ◌∙◌, ap, subst, arith, append_assoc, Contains, Option, Some, None, is_some, drop}
+use Rattle.std.proofs.Common.{◌≡◌, ◌⊎◌, inl, inr, ℕ, zero, suc, ◌==◌, ◌<◌, Bool, true, false, if◌then◌else◌, not, List, [], ◌∷◌, map, filter, refl, sym, ap, subst, arith, Contains, Some}
 use Rattle.std.proofs.Math.ListN.{set}
-use Rattle.std.specs.List.{list_any, slice_get}
-use Rattle.std.proofs.lemmas.Bool.{cases_Bool}
+use Rattle.std.specs.List.{slice_get}
 use Rattle.std.proofs.lemmas.Option.{same_Some}
 use Rattle.std.proofs.lemmas.Bool.Decides.{eqb_tells}
 use Rattle.std.proofs.lemmas.List.Elements.{Contains-append_right, Contains-append_left, Contains-push, Contains-append_cases, Contains-push_cases}
 use Rattle.dired_text.specs.Paths.{Names}
 use Rattle.edit_words.specs.declared.row.Row.{Row}
-use Rattle.edit_words.specs.Rows.{is_at, written}
-use Rattle.plan_moves.specs.Waiting.{Waiting, is_free, is_ready, is_unkept, keeps_in_place, NoneReady, put_away, without}
+use Rattle.plan_moves.specs.Waiting.{Waiting, put_away, without}
 use Rattle.commit_plan.specs.declared.changes.Stand.{Stand}
 use Rattle.commit_plan.specs.declared.changes.Stand.TheVariants.{Left, Waits}
 use Rattle.commit_plan.specs.declared.changes.Change.{Change}
-use Rattle.commit_plan.specs.Stands.{AreSpelled, IsSpelledAt, change, is_ready_at, is_ready_by, is_source_now, keeps_now, turns, turns_by, wait_by, waits_of}
+use Rattle.commit_plan.specs.Stands.{change, wait_by, waits_of}
 
 module _ {X : Type 0} where
   pub contains_head : (x : X) (xs : List X) → Contains (x ∷ xs) x

@@ -1,24 +1,23 @@
 -- What waits at first, and where.
-use Rattle.std.proofs.Common.{◌≡◌, ◌⊎◌, inl, inr, ℕ, zero, suc, ◌==◌, ◌+◌, ◌*◌, ◌<◌, ◌≤◌, Bool, true, false, cond, if◌then◌else◌, not, ◌||◌, List, [], ◌∷◌, ◌++◌, length, get_or, refl, sym, ◌∙◌, ap, subst, arith, Option, Some, None, is_some}
-use Rattle.std.specs.List.{slice_get, AllPairs}
+use Rattle.std.proofs.Common.{◌≡◌, ◌⊎◌, inl, inr, ℕ, zero, suc, ◌+◌, ◌*◌, ◌≤◌, Bool, true, false, if◌then◌else◌, not, ◌||◌, List, [], ◌∷◌, length, get_or, refl, sym, ◌∙◌, ap, subst, arith, Option, Some, None, is_some}
+use Rattle.std.specs.List.{slice_get}
 use Rattle.std.specs.Option.{option_map}
 use Rattle.std.specs.Prelude.{codes}
 use Rattle.std.proofs.lemmas.Bool.{cases_Bool}
 use Rattle.std.proofs.lemmas.Option.{get_or_from_slice_get, same_Some, slice_get_within}
 use Rattle.dired_text.specs.Paths.{Names}
-use Rattle.commit_steps.specs.declared.step.Step.{Step}
 use Rattle.commit_steps.specs.Staging.{staged, fresh_name, numbered}
 use Rattle.edit_words.specs.declared.row.Row.{Row}
 use Rattle.edit_words.specs.Edited.{is_fresh}
 use Rattle.edit_words.specs.Rows.{written}
 use Rattle.edit_words.specs.WellFormed.{LinesRise}
 use Rattle.plan_moves.specs.Waiting.{Waiting, waiting}
-use Rattle.plan_moves.specs.Moves.{Moves, Spots, fresh_spots}
+use Rattle.plan_moves.specs.Moves.{Moves, fresh_spots}
 use Rattle.commit_plan.specs.declared.changes.Stand.{Stand}
 use Rattle.commit_plan.specs.declared.changes.Stand.TheVariants.{Left, Waits}
 use Rattle.commit_plan.specs.declared.changes.Change.{Change}
 use Rattle.commit_plan.specs.Stands.{AreSpelled, IsSpelledAt, Moved, change, first_changes, first_stand, first_stand_by, turns, turns_by, wait_by, waits_of}
-use Rattle.commit_plan.proofs.ChangeLemmas.{HasLine, LinesApart, other_line, same_line}
+use Rattle.commit_plan.proofs.ChangeLemmas.{LinesApart, other_line, same_line}
 
 -- ---- one row
 

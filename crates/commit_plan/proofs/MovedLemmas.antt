@@ -1,16 +1,14 @@
 -- What one move more leaves of a run of moves.
-use Rattle.std.proofs.Common.{◌≡◌, ◌⊎◌, inl, inr, ℕ, zero, suc, ◌==◌, ◌+◌, ◌*◌, ◌<◌, ◌≤◌, Bool, true, false, cond, if◌then◌else◌, not, ◌||◌, List, [], ◌∷◌, ◌++◌, length, refl, sym, ◌∙◌, ap, subst, arith, append_assoc, Contains, Option, Some, None, is_some}
+use Rattle.std.proofs.Common.{◌≡◌, ◌⊎◌, inl, inr, ℕ, zero, suc, ◌==◌, ◌+◌, ◌<◌, ◌≤◌, Bool, true, false, List, [], ◌∷◌, ◌++◌, refl, sym, ◌∙◌, ap, subst, arith, append_assoc, Option, Some, None}
 use Rattle.std.proofs.Math.ListN.{set}
 use Rattle.std.specs.List.{slice_get}
-use Rattle.std.proofs.lemmas.Bool.{cases_Bool}
 use Rattle.std.proofs.lemmas.List.{append-nil}
 use Rattle.std.proofs.lemmas.Option.{same_Some}
 use Rattle.dired_text.specs.Paths.{Names}
 use Rattle.commit_steps.specs.declared.step.Step.{Step}
 use Rattle.commit_steps.specs.declared.step.Step.TheVariants.{Rename}
-use Rattle.commit_steps.specs.Staging.{staged, temporary, fresh_name, numbered}
+use Rattle.commit_steps.specs.Staging.{staged, temporary}
 use Rattle.edit_words.specs.declared.row.Row.{Row}
-use Rattle.edit_words.specs.Edited.{is_fresh}
 use Rattle.edit_words.specs.Rows.{written}
 use Rattle.plan_moves.specs.Waiting.{Waiting, deepest, is_ready, NoneReady, put_away, waiting, without}
 use Rattle.plan_moves.specs.Moves.{Moves, Spots, fresh_spots, spot_of, with_spot}
@@ -18,7 +16,7 @@ use Rattle.plan_moves.specs.Moves.Moves.{carry, knot, over}
 use Rattle.commit_plan.specs.declared.changes.Stand.{Stand}
 use Rattle.commit_plan.specs.declared.changes.Stand.TheVariants.{Left, Waits}
 use Rattle.commit_plan.specs.declared.changes.Change.{Change}
-use Rattle.commit_plan.specs.Stands.{AreSpelled, IsBest, IsCarried, IsPutAway, IsSpelledAt, Moved, change, first_changes, first_stand, is_ready_at, is_ready_in, turns, turns_by, wait_by, waits_of}
+use Rattle.commit_plan.specs.Stands.{AreSpelled, IsBest, IsCarried, IsPutAway, IsSpelledAt, Moved, change, is_ready_at, is_ready_in, turns, turns_by, waits_of}
 use Rattle.commit_plan.proofs.ChangeLemmas.{HasLine, LinesApart, other_line, same_line, waits, waits_away, waits_left}
 use Rattle.commit_plan.proofs.ReadyLemmas.{spelled_at, spelled_to}
 

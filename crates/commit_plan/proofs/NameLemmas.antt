@@ -1,12 +1,10 @@
 -- The names of entries in the staging directory are names.
-use Rattle.std.proofs.Common.{◌≡◌, ℕ, ◌==◌, ◌+◌, ◌<◌, ◌≤◌, ◌^◌, nat_le, Bool, true, false, ◌&&◌, ◌||◌, not, List, [], ◌∷◌, ◌++◌, length, refl, sym, ◌∙◌, ap, subst, arith, decimal, length-append}
+use Rattle.std.proofs.Common.{◌≡◌, ℕ, ◌==◌, ◌+◌, ◌<◌, ◌≤◌, ◌^◌, nat_le, Bool, true, false, ◌&&◌, List, [], ◌∷◌, ◌++◌, length, refl, ap, arith, decimal, length-append}
 use Rattle.std.proofs.lemmas.List.{append-nil}
-use Rattle.std.specs.Prelude.{codes}
 use Rattle.std.specs.List.{list_all}
-use Rattle.std.specs.Str.{bytes_eq}
 use Rattle.dired_text.specs.Paths.{is_dots, is_name, is_name_byte, path_bytes, max_path_bytes}
-use Rattle.commit_steps.specs.Numbers.{is_decimal, is_digit, is_number, IsNumber}
-use Rattle.commit_steps.proofs.NumberLemmas.{decimal_is, number_holds, Digits}
+use Rattle.commit_steps.specs.Numbers.{is_decimal, is_digit, IsNumber}
+use Rattle.commit_steps.proofs.NumberLemmas.{decimal_is, number_holds}
 use Rattle.commit_plan.specs.declared.names.Entry.{Entry}
 use Rattle.commit_plan.specs.declared.names.Entry.TheVariants.{Temporary, Held, Fresh}
 use Rattle.commit_plan.specs.Stands.{letter_of}

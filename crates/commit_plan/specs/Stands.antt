@@ -1,15 +1,14 @@
 -- The changes of a plan, and where they stand while it is made.
-use Rattle.std.specs.Prelude.{ℕ, ◌≡◌, ◌+◌, ◌≤◌, ◌==◌, Bool, true, false, ◌&&◌, ◌||◌, not, List, [], ◌∷◌, ◌++◌, map, if◌then◌else◌, is_some, unwrap_or, codes, Option, Some, None, set}
+use Rattle.std.specs.Prelude.{ℕ, ◌≡◌, ◌+◌, Bool, true, false, ◌&&◌, not, List, [], ◌∷◌, ◌++◌, if◌then◌else◌, codes, Option, Some, None, set}
 use Rattle.std.specs.List.{slice_get}
 use Rattle.dired_text.specs.Paths.{Names}
 use Rattle.commit_steps.specs.declared.step.Step.{Step}
 use Rattle.commit_steps.specs.declared.step.Step.TheVariants.{Rename}
-use Rattle.commit_steps.specs.Staging.{staged, numbered, fresh_name}
+use Rattle.commit_steps.specs.Staging.{staged, numbered}
 use Rattle.edit_words.specs.declared.row.Row.{Row}
 use Rattle.edit_words.specs.Edited.{is_fresh}
-use Rattle.edit_words.specs.Place.{is_above}
 use Rattle.edit_words.specs.Rows.{is_at, written}
-use Rattle.plan_moves.specs.Waiting.{Waiting, deepest, is_before, waiting, is_ready, is_in_place, is_above_source, keeps_in_place}
+use Rattle.plan_moves.specs.Waiting.{Waiting, deepest, is_before, waiting, is_ready, keeps_in_place}
 use Rattle.plan_moves.specs.Moves.{Moves, Spots, fresh_spots}
 use Rattle.commit_plan.specs.declared.names.Entry.{Entry}
 use Rattle.commit_plan.specs.declared.names.Entry.TheVariants.{Temporary, Held, Fresh}

@@ -1,10 +1,10 @@
-use Rattle.std.proofs.Common.{◌≡◌, ◌+◌, ◌*◌, ◌≤◌, ◌<◌, true, None, ◌++◌, ◌∷◌, [], List, ap, sym, subst, arith, rules, length}
+use Rattle.std.proofs.Common.{◌≡◌, ◌+◌, ◌<◌, true, None, ◌++◌, ◌∷◌, [], List, ap, sym, subst, arith, rules, length}
 use Rattle.std.proofs.lemmas.Option.{slice_get_within}
 use Rattle.commit_steps.specs.declared.step.Step.{Step}
 use Rattle.commit_steps.specs.Staging.{staged, temporary}
 use Rattle.plan_moves.specs.Waiting.{NoneReady}
 use Rattle.commit_plan.specs.declared.changes.Change.{Change}
-use Rattle.commit_plan.specs.Stands.{AreSpelled, BestIn, IsBest, IsCarried, IsPutAway, Moved, first_changes, is_ready_at, turns, waits_of}
+use Rattle.commit_plan.specs.Stands.{AreSpelled, BestIn, IsBest, IsPutAway, Moved, first_changes, is_ready_at, turns, waits_of}
 use Rattle.commit_plan.proofs.ChangeLemmas.{LinesApart}
 use Rattle.commit_plan.proofs.FirstLemmas.{all_spelled, few_turns, lines_apart, moved_first}
 use Rattle.commit_plan.proofs.MovedLemmas.{apart_away, apart_carried, moved_all, moved_best, moved_carried, spelled_away, spelled_carried, turns_away, turns_carried}

@@ -1,15 +1,12 @@
-use Rattle.std.proofs.Common.{◌≡◌, Bool, true, false, Some, List, ap, sym, subst, refl, ◌∙◌, rules}
+use Rattle.std.proofs.Common.{◌≡◌, true, false, ap, ◌∙◌, rules}
 use Rattle.std.proofs.Math.ListN.{set}
-use Rattle.std.specs.List.{slice_get}
 use Rattle.std.proofs.lemmas.List.{get_or-set_same, set-set}
 use Rattle.std.proofs.lemmas.Option.{get_or_from_slice_get}
 use Rattle.dired_text.specs.Paths.{Names}
-use Rattle.commit_steps.specs.declared.step.Step.{Step}
 use Rattle.commit_steps.specs.declared.step.Step.TheVariants.{Rename}
 use Rattle.commit_steps.specs.Staging.{staged, temporary}
 use Rattle.edit_words.specs.declared.row.Row.{Row}
-use Rattle.commit_plan.specs.declared.changes.Stand.{Stand}
-use Rattle.commit_plan.specs.declared.changes.Stand.TheVariants.{Left, Waits}
+use Rattle.commit_plan.specs.declared.changes.Stand.TheVariants.{Waits}
 use Rattle.commit_plan.specs.declared.changes.Change.{Change}
 use Rattle.commit_plan.specs.Stands.{change}
 use Rattle.commit_plan.proofs.MovedLemmas.{at_of, to_of}

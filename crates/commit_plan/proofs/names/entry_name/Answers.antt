@@ -1,4 +1,4 @@
-use Rattle.std.proofs.Common.{◌≡◌, ◌++◌, ◌<◌, ◌^◌, ap, sym, subst, ◌∙◌, decimal, rules, Bool, List, ℕ, IsTrue}
+use Rattle.std.proofs.Common.{◌≡◌, ◌++◌, ◌<◌, ◌^◌, ap, ◌∙◌, decimal, rules, List, ℕ}
 use Rattle.dired_text.specs.Paths.{is_name}
 use Rattle.commit_plan.specs.Stands.{letter_of}
 use Rattle.commit_plan.proofs.NameLemmas.{entry_name}

@@ -1,6 +1,5 @@
 use Rattle.std.proofs.Common.{◌≡◌, ◌≤◌, ◌++◌, [], List, map, length, ap, sym, subst, ◌∙◌, arith, rules}
 use Rattle.dired_text.specs.Paths.{Names}
-use Rattle.commit_steps.specs.declared.step.Step.{Step}
 use Rattle.commit_steps.specs.declared.step.Step.TheVariants.{MakeDir}
 use Rattle.edit_words.specs.declared.row.Row.{Row}
 use Rattle.edit_words.specs.Rows.{rows}

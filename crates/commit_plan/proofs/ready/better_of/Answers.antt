@@ -1,9 +1,9 @@
-use Rattle.std.proofs.Common.{◌≡◌, Option, Some, true, false, ap, sym, ◌∙◌, refl, rules, subst}
+use Rattle.std.proofs.Common.{◌≡◌, Some, true, sym, ◌∙◌, refl, rules, subst}
 use Rattle.std.specs.List.{slice_get}
 use Rattle.std.proofs.lemmas.Option.{same_Some, slice_get_read}
 use Rattle.commit_plan.specs.declared.changes.Change.{Change}
 use Rattle.commit_plan.specs.Stands.{waits_at_source}
-use Rattle.commit_plan.proofs.ReadyLemmas.{best_kept, best_new, best_stays}
+use Rattle.commit_plan.proofs.ReadyLemmas.{best_new, best_stays}
 use Rattle.commit_plan.proofs.ready.better_of.Goals as goal
 
 pub returns-then-is_better-clause-best : goal.returns-then-is_better-clause-best

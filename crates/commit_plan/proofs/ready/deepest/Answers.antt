@@ -1,4 +1,4 @@
-use Rattle.std.proofs.Common.{◌≡◌, ◌+◌, ◌-◌, ◌<◌, length, arith, rules, subst, sym, ℕ, drop, suc}
+use Rattle.std.proofs.Common.{◌≡◌, ◌+◌, ◌-◌, ◌<◌, length, arith, rules, subst, ℕ, drop, suc}
 use Rattle.commit_plan.specs.Stands.{BestIn}
 use Rattle.commit_plan.proofs.ReadyLemmas.{best_more}
 use Rattle.commit_plan.proofs.ready.deepest.Goals as goal

@@ -1,4 +1,4 @@
-use Rattle.std.proofs.Common.{◌≡◌, [], Bool, sym, ap, rules, ◌∙◌}
+use Rattle.std.proofs.Common.{◌≡◌, [], sym, ap, rules, ◌∙◌}
 use Rattle.dired_text.specs.Paths.{Names}
 use Rattle.edit_words.specs.Place.{is_above}
 use Rattle.edit_words.specs.Rows.{written}

@@ -1,8 +1,8 @@
-use Rattle.std.proofs.Common.{◌≡◌, ◌&&◌, ◌||◌, Bool, true, false, Some, ap, sym, ◌∙◌, refl, rules}
+use Rattle.std.proofs.Common.{◌≡◌, true, false, Some, ◌∙◌, refl, rules}
 use Rattle.std.specs.List.{slice_get}
 use Rattle.std.proofs.lemmas.Option.{slice_get_read}
 use Rattle.plan_moves.specs.Waiting.{is_free, is_unkept}
-use Rattle.commit_plan.specs.Stands.{is_ready_at, waits_of}
+use Rattle.commit_plan.specs.Stands.{waits_of}
 use Rattle.commit_plan.proofs.ReadyLemmas.{by_away, by_free, by_unkept, ready_is}
 use Rattle.commit_plan.proofs.ready.is_ready.Goals as goal
 

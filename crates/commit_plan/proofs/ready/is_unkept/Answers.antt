@@ -1,4 +1,4 @@
-use Rattle.std.proofs.Common.{Bool, List, Option, not, ap, sym, subst, ◌∙◌, ◌≡◌, Some, rules}
+use Rattle.std.proofs.Common.{Bool, Option, not, ap, sym, ◌∙◌, ◌≡◌, Some, rules}
 use Rattle.dired_text.specs.Paths.{Names}
 use Rattle.plan_moves.specs.Waiting.{is_unkept}
 use Rattle.commit_plan.specs.Stands.{waits_of}
