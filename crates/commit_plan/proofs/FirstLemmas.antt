@@ -17,6 +17,7 @@ use Rattle.commit_plan.specs.declared.changes.Stand.{Stand}
 use Rattle.commit_plan.specs.declared.changes.Stand.TheVariants.{Left, Waits}
 use Rattle.commit_plan.specs.declared.changes.Change.{Change}
 use Rattle.commit_plan.specs.Stands.{AreSpelled, IsSpelledAt, Moved, change, first_changes, first_stand, first_stand_by, turns, turns_by, wait_by, waits_of}
+use Rattle.commit_plan.proofs.MovedLemmas.{at_of}
 use Rattle.commit_plan.proofs.ChangeLemmas.{LinesApart, other_line, same_line}
 
 -- ---- one row
@@ -84,10 +85,6 @@ away_by n r None to at w e = cc
 away_by n r (Some s) None at w e = cc
 away_by n r (Some s) (Some v) at w e = cc
 
-abbrev at_of : Stand → Names
-at_of Left = []
-at_of (Waits away at to) = at
-
 abbrev next_fresh : ℕ → Row → ℕ
 next_fresh n r = if is_fresh r then n + 1 else n
 
@@ -122,18 +119,21 @@ row_at n [] i c e = cc
 row_at n (r ∷ rs) zero c e = ap (λ (o : Option Change). option_map (λ (x : Change). x.row) o) e
 row_at n (r ∷ rs) (suc i) c e = row_at (next_fresh n r) rs i c e
 
-rise_tail : (r : Row) (rs : List Row) → LinesRise (r ∷ rs) → LinesRise rs
+-- a later row has another line
+pub rises : (r : Row) (rs : List Row) → LinesRise (r ∷ rs) → (k : ℕ) (o : Row) → slice_get rs k ≡ Some o → o.line ≡ r.line → ⊥
+rises r rs h k o e same =
+    let less = h zero (suc k) r (omega arith) (let w = slice_get_within rs k o e in omega arith) in
+    let is : get_or rs k r ≡ o = get_or_from_slice_get rs k o r e in
+    let line : (get_or rs k r).line ≡ o.line = ap (λ (x : Row). x.line) is in
+    omega (arith, less, line, same)
+
+pub rise_tail : (r : Row) (rs : List Row) → LinesRise (r ∷ rs) → LinesRise rs
 rise_tail r rs h = λ i j d below within. h (suc i) (suc j) d (omega arith) (omega arith)
 
 pub lines_apart : (n : ℕ) (rs : List Row) → LinesRise rs → LinesApart (first_changes n rs)
 lines_apart n [] h = tt
 lines_apart n (r ∷ rs) h = (
-  (λ k c e same.
-      let at = row_at (next_fresh n r) rs k c e in
-      let less = h zero (suc k) r (omega arith) (omega (arith, slice_get_within rs k c.row at)) in
-      let is : get_or rs k r ≡ c.row = get_or_from_slice_get rs k c.row r at in
-      let line : (get_or rs k r).line ≡ c.row.line = ap (λ (x : Row). x.line) is in
-      omega (arith, less, line, same)),
+  (λ k c e same. rises r rs h k c.row (row_at (next_fresh n r) rs k c e) same),
   lines_apart (next_fresh n r) rs (rise_tail r rs h),
 )
 

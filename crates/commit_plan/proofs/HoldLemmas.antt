@@ -1,8 +1,7 @@
 -- What is put aside, as the victims come with their lines.
-use Rattle.std.proofs.Common.{◌≡◌, ℕ, zero, suc, ◌==◌, ◌*◌, ◌≤◌, Bool, true, false, if◌then◌else◌, List, [], ◌∷◌, ◌++◌, length, get_or, refl, ◌∙◌, ap, arith, append_assoc, length-append, Option, Some, None}
+use Rattle.std.proofs.Common.{◌≡◌, ℕ, zero, suc, ◌==◌, ◌*◌, ◌≤◌, Bool, true, false, if◌then◌else◌, List, [], ◌∷◌, ◌++◌, length, refl, ◌∙◌, ap, arith, append_assoc, length-append, Option, Some, None}
 use Rattle.std.specs.List.{cons_option, filter_map, flat_map, slice_get}
 use Rattle.std.specs.Option.{option_map}
-use Rattle.std.proofs.lemmas.Option.{get_or_from_slice_get, slice_get_within}
 use Rattle.dired_text.specs.Paths.{Names}
 use Rattle.commit_steps.specs.declared.step.Step.{Step}
 use Rattle.edit_words.specs.declared.row.Row.{Row}
@@ -13,6 +12,7 @@ use Rattle.edit_rules.specs.Plans.{victim_line, victims_of}
 use Rattle.plan_moves.specs.Plan.{held_by, held_paths, is_given_up, listed}
 use Rattle.commit_plan.specs.Holding.{held_from, victims_at, victims_past}
 use Rattle.commit_plan.proofs.ChangeLemmas.{other_line, same_line}
+use Rattle.commit_plan.proofs.FirstLemmas.{rise_tail, rises}
 
 -- the first victim is not of this line
 abbrev FirstOther : ℕ → List (ℕ × Names) → Type 0
@@ -27,16 +27,6 @@ one_held : (r : Row) (v : Option Names) (vs : List (ℕ × Names)) → FirstOthe
     → (victims_at r.line (cons_option (option_map (λ (p : Names). (r.line, p)) v) vs) ≡ listed v) × (victims_past r.line (cons_option (option_map (λ (p : Names). (r.line, p)) v) vs) ≡ vs)
 one_held r None vs h = no_victim r.line vs h
 one_held r (Some p) vs h = let e = same_line r.line in (rw e refl, rw e refl)
-
-rises : (r : Row) (rs : List Row) → LinesRise (r ∷ rs) → (k : ℕ) (o : Row) → slice_get rs k ≡ Some o → o.line ≡ r.line → ⊥
-rises r rs h k o e same =
-    let less = h zero (suc k) r (omega arith) (let w = slice_get_within rs k o e in omega arith) in
-    let is : get_or rs k r ≡ o = get_or_from_slice_get rs k o r e in
-    let line : (get_or rs k r).line ≡ o.line = ap (λ (x : Row). x.line) is in
-    omega (arith, less, line, same)
-
-rise_tail : (r : Row) (rs : List Row) → LinesRise (r ∷ rs) → LinesRise rs
-rise_tail r rs h = λ i j d below within. h (suc i) (suc j) d (omega arith) (omega arith)
 
 first_other_by : (line : ℕ) (r : Row) (v : Option Names) (vs : List (ℕ × Names)) → (r.line ≡ line → ⊥) → FirstOther line vs → FirstOther line (cons_option (option_map (λ (p : Names). (r.line, p)) v) vs)
 first_other_by line r None vs n h = h

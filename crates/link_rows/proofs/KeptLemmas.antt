@@ -1,13 +1,12 @@
 -- What calls leave of a row that stands in no list, and that a row stands in one list.
-use Rattle.std.proofs.Common.{◌≡◌, ◌≢◌, ℕ, ◌<◌, ◌≤◌, List, [], ◌∷◌, ◌++◌, length, refl, sym, subst, ap, ◌∙◌, arith, append_assoc, Contains, ◌⊎◌, inl, inr, true, false}
+use Rattle.std.proofs.Common.{◌≡◌, ◌≢◌, ℕ, ◌<◌, List, [], ◌∷◌, ◌++◌, length, sym, subst, ap, ◌∙◌, arith, Contains, ◌⊎◌, inl, inr, true, false}
 use Rattle.std.proofs.Math.Dec.{eqb}
 use Rattle.std.proofs.lemmas.List.Elements.{Contains-append_cases, Contains-append_left, Contains-append_right, Contains-push, Contains-push_cases}
 use Rattle.std.proofs.lemmas.Bool.Decides.{eqb_tells}
-use Rattle.std.proofs.Math.ListN.{set}
-use Rattle.std.proofs.lemmas.List.{get_or-set_other, get_or_append_left, length-set, append-nil}
-use Rattle.link_rows.specs.Net.{Net, AllRows, Chain, CanRelink, IsList, IsNet, cut_out, grown, last_of, linked, next_of, prev_of, pushed, relinked, spliced, unlinked}
+use Rattle.std.proofs.lemmas.List.{get_or-set_other, get_or_append_left}
+use Rattle.link_rows.specs.Net.{Net, AllRows, Chain, IsList, IsNet, grown, last_of, linked, next_of, prev_of}
 use Rattle.link_rows.specs.Unlinked.{IsUnlinked, IsInOneList, KeepsNeighbours, KeptByCut, KeptByPush, KeptByRelink, KeptBySplice, KeptByUnlink, StandsOnce}
-use Rattle.link_rows.proofs.NetLemmas.{Misses, Unique, away, chain-unique, last-follows, last-next, misses-append, rows-split, split, unique-front, unique-missed}
+use Rattle.link_rows.proofs.NetLemmas.{Misses, Unique, away, chain-unique, misses-append, split, unique-missed}
 
 contains-tail : (x y : ℕ) (xs : List ℕ) → Contains xs y → Contains (x ∷ xs) y
 contains-tail x y xs c = Contains-append_right (x ∷ []) xs y c

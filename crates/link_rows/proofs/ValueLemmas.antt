@@ -1,6 +1,6 @@
 -- The lists as lists of values.
-use Rattle.std.proofs.Common.{◌≡◌, ◌≢◌, ℕ, ◌+◌, ◌-◌, ◌<◌, ◌≤◌, List, [], ◌∷◌, ◌++◌, length, refl, sym, subst, ap, ◌∙◌, arith, append_assoc, zero, suc}
-use Rattle.link_rows.specs.Net.{AllRows, IsList, IsNet, Net, nodes, pushed}
+use Rattle.std.proofs.Common.{◌≡◌, ◌≢◌, ℕ, ◌+◌, ◌-◌, ◌<◌, List, [], ◌∷◌, ◌++◌, length, refl, sym, ap, ◌∙◌, arith, append_assoc, zero, suc}
+use Rattle.link_rows.specs.Net.{AllRows, IsNet, nodes}
 use Rattle.link_rows.specs.Tables.{Table}
 use Rattle.link_rows.specs.Values.{HasOneSequence, HasValues, PushesValue, value_at, values_of, with_pushed}
 use Rattle.link_rows.proofs.NetLemmas.{pushes, same}
