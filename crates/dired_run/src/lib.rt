@@ -1,0 +1,16 @@
+//! What the program `dired` does: the top call, over any tree, inputs and output.
+#![tactic(auto)]
+
+mod commit;
+mod inputs;
+mod listing;
+mod program;
+mod reports;
+mod requests;
+mod status;
+#[cfg(test)]
+mod tests;
+
+pub use program::run;
+pub use requests::Request;
+pub use status::{Counted, LineCause, Status};
