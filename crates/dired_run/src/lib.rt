@@ -8,8 +8,6 @@ mod program;
 mod reports;
 mod requests;
 mod status;
-#[cfg(test)]
-mod tests;
 
 pub use program::run;
 pub use requests::Request;
