@@ -2,7 +2,11 @@
 PREFIX ?= /usr/local
 PROGRAM = crates/dired_cli/out/dired_cli
 
-.PHONY: demo test install bench
+CASES = crates/dired_cases/out/dired_cases
+COUNT ?= 10000
+SEED ?=
+
+.PHONY: demo test install bench fuzz
 
 # Proves and builds the program, and carries out a real edit in a throw-away folder.
 demo: $(PROGRAM)
@@ -14,6 +18,10 @@ test:
 
 install: $(PROGRAM)
 	install -D -m 755 $(PROGRAM) $(DESTDIR)$(PREFIX)/bin/dired
+
+# Cases that are drawn, and compared with a model of the rules.
+fuzz: $(CASES)
+	bash scripts/fuzz-cases.sh $(CASES) $(COUNT) $(SEED)
 
 bench: $(PROGRAM)
 	bash bench/one-name.sh $(PROGRAM)
@@ -29,3 +37,9 @@ $(PROGRAM): crates.txt $(wildcard crates/*/src/*.rt crates/*/specs/*.antt crates
 	cd crates/dired_cli && { rt run > out.log 2>&1 || true; }
 	test -x $@ || { tail -20 crates/dired_cli/out.log; exit 1; }
 	rm -f crates/dired_cli/out.log
+
+$(CASES): crates.txt $(wildcard crates/*/src/*.rt crates/*/specs/*.antt crates/*/proofs/*.antt)
+	rm -f $@
+	cd crates/dired_cases && { rt run < /dev/null > out.log 2>&1 || true; }
+	test -x $@ || { tail -20 crates/dired_cases/out.log; exit 1; }
+	rm -f crates/dired_cases/out.log

@@ -8,8 +8,6 @@ mod list;
 mod matching;
 mod paths;
 mod reading;
-#[cfg(test)]
-mod tests;
 
 pub use command::{Command, Paths, WordsFault};
 pub use reading::read_words;

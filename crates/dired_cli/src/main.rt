@@ -1,19 +1,7 @@
 //! The program `dired`: a directory editor whose commits survive a crash at any moment.
 #![tactic(auto)]
 
-mod commit;
-mod inputs;
-mod listing;
-mod program;
-mod reports;
-mod requests;
-mod status;
-#[cfg(test)]
-mod tests;
-
-pub use program::run;
-pub use requests::Request;
-pub use status::{Counted, LineCause, Status};
+use dired_run::run;
 use std::env;
 use std::process::ExitCode;
 use tree_host::{FileShelf, HostTree, OutSink};

@@ -1,0 +1,132 @@
+// A case, as its rows are read.
+use crate::faults::RowFault;
+use crate::report::head_text;
+use crate::row::Row;
+use crate::running::{run_on, tree_behind};
+use crate::schedule::Schedule;
+use dired_text::{Bytes, MemShelf, Text};
+use mem_tree::{BuildFault, Entry, MemTree};
+use std::alloc::Global;
+use std::mem;
+
+/// The tree, the inputs and the schedule that the rows of a case have said.
+#[derive(Drop)]
+pub struct Case {
+    alloc: Global,
+    entries: Vec<Entry>,
+    // the line of each entry
+    lines: Vec<u64>,
+    inputs: Vec<(Text, Vec<u8>)>,
+    // whether the last input has a line
+    has_line: bool,
+    schedule: Schedule,
+    // the tree that the last run left
+    tree: Option<MemTree>,
+}
+
+impl Case {
+    /// A case that has said nothing.
+    pub fn new(alloc: Global) -> Self {
+        Case {
+            alloc,
+            entries: Vec::new(alloc),
+            lines: Vec::new(alloc),
+            inputs: Vec::new(alloc),
+            has_line: false,
+            schedule: Schedule::new(alloc),
+            tree: None,
+        }
+    }
+
+    /// Takes the row of a line, and answers what is printed behind it.
+    ///
+    /// # Errors
+    /// `Bad` where it can't stand here, and `BadAt` with the line of an entry that can't stand in the tree.
+    pub fn take(&mut self, line: u64, row: Row) -> Result<String, RowFault> {
+        match row {
+            Row::Case(name) => {
+                *self = Case::new(self.alloc);
+                return Ok(head_text(self.alloc, name.as_str())?);
+            }
+            Row::Run(words) => return self.run(&words),
+            Row::Entry(entry) => {
+                self.entries.push(entry)?;
+                self.lines.push(line)?;
+            }
+            Row::Input(name) => {
+                self.inputs.push((name, Vec::new(self.alloc)))?;
+                self.has_line = false;
+            }
+            Row::Line(bytes) => self.take_line(bytes.as_slice())?,
+            row => self.schedule_row(row)?,
+        }
+        Ok(String::new(self.alloc))
+    }
+
+    // The next line of the last input. A newline stands between two lines.
+    fn take_line(&mut self, bytes: &[u8]) -> Result<(), RowFault> {
+        let Some(input) = self.inputs.last_mut() else {
+            return Err(RowFault::Bad);
+        };
+        if self.has_line {
+            input.1.push(b'\n')?;
+        }
+        input.1.extend_from_slice(bytes)?;
+        self.has_line = true;
+        Ok(())
+    }
+
+    // What is said of the next run.
+    fn schedule_row(&mut self, row: Row) -> Result<(), RowFault> {
+        match row {
+            Row::FailChange(call, is_done) => self.schedule.fail_change(call, is_done)?,
+            Row::FailLook(call) => self.schedule.looks.push(call)?,
+            Row::FailRead(call) => self.schedule.reads.push(call)?,
+            Row::FailWrite(call) => self.schedule.writes.push(call)?,
+            Row::Stop { call, image } => self.schedule.stop(call, image)?,
+            _ => {}
+        }
+        Ok(())
+    }
+
+    // Runs the words on the tree of the entries, or on the one that the last run left, and answers what is printed of it.
+    fn run(&mut self, words: &[String]) -> Result<String, RowFault> {
+        let mut tree = match self.tree.take() {
+            Some(tree) => tree,
+            None => self.build()?,
+        };
+        let shelf = self.shelf()?;
+        let schedule = mem::replace(&mut self.schedule, Schedule::new(self.alloc));
+        let image = schedule.image;
+        let mut text = run_on(self.alloc, words, &mut tree, shelf, schedule)?;
+        self.tree = Some(tree_behind(self.alloc, &mut text, tree, image)?);
+        Ok(text)
+    }
+
+    // The tree of the entries.
+    fn build(&self) -> Result<MemTree, RowFault> {
+        match MemTree::new(self.alloc, &self.entries) {
+            Ok(tree) => Ok(tree),
+            Err(BuildFault::BadEntry(place)) => Err(self.bad_entry(place)),
+            Err(BuildFault::Memory) => Err(RowFault::Memory),
+        }
+    }
+
+    // The fault of the entry at this place.
+    fn bad_entry(&self, place: u64) -> RowFault {
+        match self.lines.get(place as usize) {
+            Some(line) => RowFault::BadAt(*line),
+            None => RowFault::Bad,
+        }
+    }
+
+    // The inputs, of which these reads fail.
+    fn shelf(&self) -> Result<MemShelf, RowFault> {
+        let mut files = Vec::new(self.alloc);
+        for input in &self.inputs {
+            files.push((input.0.copy()?, Bytes::copy_of(self.alloc, &input.1)?))?;
+        }
+        let reads = Vec::from_slice(self.alloc, &self.schedule.reads)?;
+        Ok(MemShelf::new(self.alloc, files, reads)?)
+    }
+}

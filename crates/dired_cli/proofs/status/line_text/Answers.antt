@@ -1,6 +1,0 @@
-use Rattle.std.proofs.Common.{◌∙◌, append_assoc}
-use Rattle.dired_cli.proofs.status.line_text.Goals as goal
-
--- the pieces in another grouping
-pub returns : goal.returns
-returns c = c.in_ok-format.ensures.ok ∙ simp append_assoc

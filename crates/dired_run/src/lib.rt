@@ -1,0 +1,14 @@
+//! What the program `dired` does: the top call, over any tree, inputs and output.
+#![tactic(auto)]
+
+mod commit;
+mod inputs;
+mod listing;
+mod program;
+mod reports;
+mod requests;
+mod status;
+
+pub use program::run;
+pub use requests::Request;
+pub use status::{Counted, LineCause, Status};
