@@ -1,0 +1,136 @@
+-- Lists of calls that are safe and where they lead, as statements.
+use Rattle.std.specs.Prelude.{◌≡◌, ◌⊎◌, ℕ, ◌+◌, ◌≤◌, List, [], ◌∷◌, ◌++◌, length, take, codes}
+use Rattle.tree_core.specs.declared.changes.Fresh.{Fresh}
+use Rattle.tree_core.specs.declared.node.Node.{Node}
+use Rattle.tree_core.specs.declared.node.Change.{Change}
+use Rattle.tree_core.specs.declared.node.Change.TheVariants as call
+use Rattle.tree_core.specs.declared.node.CallName.{CallName}
+use Rattle.tree_core.specs.FileTree.{FileTree, IsTree, IsAbsent}
+use Rattle.tree_core.specs.History.{History, Then, IsSound, current_tree, next_number, IsCrashState, IsDurable, LeavesOnly}
+use Rattle.tree_core.specs.Runs.{then_all, CanAll, FailedIn}
+use Rattle.commit_steps.specs.declared.step.Step.{Step}
+use Rattle.commit_steps.specs.declared.step.Step.TheVariants.{MakeDir}
+use Rattle.commit_journal.specs.declared.version.Version.TheVariants.{Two}
+use Rattle.commit_journal.specs.Spelling.{journal_text}
+use Rattle.commit_steps.specs.Staging.{staging, sealed, undone}
+use Rattle.step_trees.specs.Steps.{after}
+use Rattle.step_trees.specs.Groups.{groups, to_next_cut, from_last_cut, ComesBySome, left_of, taken_of}
+use Rattle.step_trees.specs.Leads.{start, at_place, Leads}
+use Rattle.commit_states.specs.declared.held.Held.{Held}
+use Rattle.commit_states.specs.Interrupted.{StandsAs, IsInterrupted, GoesForward}
+use Rattle.commit_states.specs.Calls.{fresh_nodes, commit_calls, staging_calls, calls_from, resume_calls, seal_calls, cleaning_calls, Cleans, turn_place, turn_calls, home_calls, end_calls, fresh_items, CleansItems, unstage_calls, Unstages, Items, ClearsItems, close_calls}
+use Rattle.commit_states.specs.Fits.{Fits, edited_by}
+use Rattle.commit_states.specs.Stops.{Unplanned, Halted, Turned, TurnsRound, still_left, already_done, to_undo, to_undo_behind, BehindSeal, AllUndone}
+
+-- These calls, from now on, can be done one after another. A crash at any moment since a run began leaves a tree that has P, also
+-- where one of them fails and is the last. Behind them all the target stands, and nothing is pending.
+pub record LeadsSafely (P : FileTree → Type 0) (target : FileTree) (began now : History) (changes : List Change) : Type 0 where
+  pub can : CanAll changes now
+  pub moments : LeavesOnly began (then_all now changes) P
+  pub failed : (last : History) (before : FileTree) (first : CallName) → FailedIn changes now last before first → LeavesOnly began last P
+  pub target_stands : current_tree (then_all now changes) ≡ target
+  pub durable : IsDurable (then_all now changes)
+
+-- ---- a commit
+
+-- A commit of steps leads safely to the edited tree.
+abbrev pub CommitsAreSafe : Type 0
+CommitsAreSafe =
+    (steps : List Step) (fs : List Fresh) (journal : List ℕ) (hs : List Held) (new : FileTree) (o : History) → IsDurable o → IsSound o
+    → Fits steps fs journal hs new (current_tree o) (next_number o)
+    → LeadsSafely (IsInterrupted steps (current_tree o) new (fresh_nodes (current_tree o) (next_number o + 1) fs)) new o o (commit_calls steps fs journal hs)
+
+-- What it asks for can be met: by one that makes the directory `d`, in any tree that has nothing there.
+abbrev pub CommitsCanFit : Type 0
+CommitsCanFit =
+    (old : FileTree) (next : ℕ) → IsTree old → IsAbsent old staging → IsAbsent old (codes "d" ∷ [])
+    → Fits (MakeDir (codes "d" ∷ []) ∷ []) [] (journal_text Two (MakeDir (codes "d" ∷ []) ∷ [])) [] (edited_by (MakeDir (codes "d" ∷ []) ∷ []) old []) old next
+
+-- the history of a commit up to its first step, and up to its seal
+abbrev pub staged_history : List Fresh → List ℕ → History → History
+staged_history fs journal o = then_all (Then o call.Sync) (staging_calls fs journal)
+
+abbrev pub stepped_history : List Step → List Fresh → List ℕ → History → History
+stepped_history steps fs journal o = then_all (staged_history fs journal o) (calls_from 0 (groups steps))
+
+-- Where a call of the staging failed, the journal doesn't have its name yet, or `at-0` stands and no step is done.
+abbrev pub FailedStagingsStop : Type 0
+FailedStagingsStop =
+    (steps : List Step) (fs : List Fresh) (journal : List ℕ) (hs : List Held) (new : FileTree) (o : History) → IsDurable o → IsSound o
+    → Fits steps fs journal hs new (current_tree o) (next_number o)
+    → (last : History) (before : FileTree) (first : CallName) → FailedIn (staging_calls fs journal) (Then o call.Sync) last before first
+    → Unplanned steps (current_tree o) new (fresh_nodes (current_tree o) (next_number o + 1) fs) (current_tree o) o last
+    ⊎ ((h : Halted steps (current_tree o) new (fresh_nodes (current_tree o) (next_number o + 1) fs) o last) × (h.m ≡ 0))
+
+-- Where a call among the steps or the markers failed, `at-m` stands with some of the steps from m to the next cut done.
+abbrev pub FailedStepsHalt : Type 0
+FailedStepsHalt =
+    (steps : List Step) (fs : List Fresh) (journal : List ℕ) (hs : List Held) (new : FileTree) (o : History) → IsDurable o → IsSound o
+    → Fits steps fs journal hs new (current_tree o) (next_number o)
+    → (last : History) (before : FileTree) (first : CallName) → FailedIn (calls_from 0 (groups steps)) (staged_history fs journal o) last before first
+    → Halted steps (current_tree o) new (fresh_nodes (current_tree o) (next_number o + 1) fs) o last
+
+-- Where the seal or a call behind it failed, recovery forward ends with the edited tree, whatever a crash leaves.
+abbrev pub FailedSealsGoForward : Type 0
+FailedSealsGoForward =
+    (steps : List Step) (fs : List Fresh) (journal : List ℕ) (hs : List Held) (new : FileTree) (o : History) → IsDurable o → IsSound o
+    → Fits steps fs journal hs new (current_tree o) (next_number o)
+    → (last : History) (before : FileTree) (first : CallName) → FailedIn (seal_calls ++ cleaning_calls hs (length steps)) (stepped_history steps fs journal o) last before first
+    → (c : FileTree) → IsCrashState last c → GoesForward steps (current_tree o) new (fresh_nodes (current_tree o) (next_number o + 1) fs) c
+
+-- ---- without a journal
+
+-- The names are removed and then the directory. Where it doesn't stand a sync does it.
+abbrev pub UnplannedGoBack : Type 0
+UnplannedGoBack =
+    (steps : List Step) (old new : FileTree) (fresh : List Node) (target : FileTree) (began now : History) → (target ≡ old) ⊎ (target ≡ new)
+    → Unplanned steps old new fresh target began now → (xs : List (List ℕ)) → Unstages xs (current_tree now)
+    → LeadsSafely (IsInterrupted steps old new fresh) target began now (unstage_calls xs ++ call.Sync ∷ [])
+
+abbrev pub UnstagedGoBack : Type 0
+UnstagedGoBack =
+    (steps : List Step) (old new : FileTree) (fresh : List Node) (target : FileTree) (began now : History) → (target ≡ old) ⊎ (target ≡ new)
+    → Unplanned steps old new fresh target began now → IsAbsent (current_tree now) staging
+    → LeadsSafely (IsInterrupted steps old new fresh) target began now (call.Sync ∷ [])
+
+-- ---- forward from `at-m`
+
+-- What is left of its group is done, then the groups behind it, the seal and the cleaning.
+abbrev pub HaltsGoForward : Type 0
+HaltsGoForward =
+    (steps : List Step) (old new : FileTree) (fresh : List Node) (hs : List Held) (began now : History) → Leads steps old new fresh
+    → Cleans hs (at_place steps old fresh (length steps)) → (h : Halted steps old new fresh began now)
+    → LeadsSafely (IsInterrupted steps old new fresh) new began now
+    (call.Sync ∷ (resume_calls steps h.m (still_left h) ++ (seal_calls ++ cleaning_calls hs (length steps))))
+
+-- ---- back
+
+-- Those of its group that were done are undone, then the groups before it, and the staging directory is cleared.
+abbrev pub TurnedGoBack : Type 0
+TurnedGoBack =
+    (steps : List Step) (old new : FileTree) (fresh : List Node) (fs : List Fresh) (began now : History) → Leads steps old new fresh
+    → IsTree old → IsAbsent old staging → CleansItems (fresh_items 0 fs) (start old fresh) → (b : Turned steps old new fresh began now)
+    → LeadsSafely (IsInterrupted steps old new fresh) old began now
+    (call.Sync ∷ (home_calls steps b.m (to_undo b) ++ end_calls fs))
+
+-- These are undone, and so on back.
+abbrev pub HaltsGoBack : Type 0
+HaltsGoBack =
+    (steps : List Step) (old new : FileTree) (fresh : List Node) (fs : List Fresh) (began now : History) → Leads steps old new fresh
+    → IsTree old → IsAbsent old staging → CleansItems (fresh_items 0 fs) (start old fresh) → (h : Halted steps old new fresh began now)
+    → (t : TurnsRound steps old fresh h.m h.u (already_done h))
+    × LeadsSafely (IsInterrupted steps old new fresh) old began now
+    (call.Sync ∷ (turn_calls h.m t.j ++ (home_calls steps t.j (to_undo_behind t) ++ end_calls fs)))
+
+-- ---- from `done` and `undone`
+
+-- What stands besides the journal is removed in whatever order, and then that and the directory.
+abbrev pub SealsGoForward : Type 0
+SealsGoForward =
+    (steps : List Step) (old new : FileTree) (fresh : List Node) (began now : History) → Leads steps old new fresh → BehindSeal steps old new fresh began now
+    → (xs : Items) → ClearsItems sealed xs (current_tree now) → LeadsSafely (IsInterrupted steps old new fresh) new began now (call.Sync ∷ close_calls sealed xs)
+
+abbrev pub UndoneGoBack : Type 0
+UndoneGoBack =
+    (steps : List Step) (old new : FileTree) (fresh : List Node) (began now : History) → Leads steps old new fresh → AllUndone steps old new fresh began now
+    → (xs : Items) → ClearsItems undone xs (current_tree now) → LeadsSafely (IsInterrupted steps old new fresh) old began now (call.Sync ∷ close_calls undone xs)

@@ -1,0 +1,6 @@
+pub mod Interrupted
+pub mod Calls
+pub mod Fits
+pub mod Stops
+pub mod Laws
+pub mod Phases

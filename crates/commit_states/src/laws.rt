@@ -1,0 +1,72 @@
+// Laws over the definitions alone.
+ghost use Rattle.commit_states.specs.Laws.{
+  CommitsAreSafe,
+  CommitsCanFit,
+  FailedSealsGoForward,
+  FailedStagingsStop,
+  FailedStepsHalt,
+  HaltsGoBack,
+  HaltsGoForward,
+  SealsGoForward,
+  TurnedGoBack,
+  UndoneGoBack,
+  UnplannedGoBack,
+  UnstagedGoBack,
+};
+ghost use Rattle.commit_states.specs.Phases.{JournalsTell, RowsExclude};
+
+/// What stands tells the row of the table and the place of the marker, and where a journal stands the steps, whatever the commit was.
+pub fn rows_exclude_one_another()
+    ensures rows { RowsExclude }
+    ensures steps { JournalsTell }
+{}
+
+/// A commit whose steps, fresh entries, journal and held entries fit the tree, which is durable: its calls can be done one after
+/// another; a crash at any moment leaves an interrupted tree, also where a call fails and is the last; behind them the edited tree
+/// stands, and nothing is pending. What it asks for can be met.
+pub fn commits_are_safe()
+    ensures safe { CommitsAreSafe }
+    ensures can_fit { CommitsCanFit }
+{}
+
+/// Where a call of a commit failed. While the staging directory is filled: no journal has its name yet, in the tree that reads and in
+/// whatever a crash leaves, or `at-0` stands and no step is done. Among the steps and their markers: `plan` and a marker `at-m` stand, and any of the steps from
+/// m to the next cut are done. At the seal or behind it: whatever a crash leaves, recovery forward ends with the edited tree.
+pub fn failed_calls_leave_rows()
+    ensures staging { FailedStagingsStop }
+    ensures steps { FailedStepsHalt }
+    ensures seal { FailedSealsGoForward }
+{}
+
+/// The way back, and recovery, where no journal has its name: the names are removed and then the directory, if it stands. A crash at
+/// any moment leaves an interrupted tree, and behind them the rest that stood is the tree, with nothing pending.
+pub fn unplanned_go_back()
+    ensures names { UnplannedGoBack }
+    ensures absent { UnstagedGoBack }
+{}
+
+/// Recovery forward from `at-m`: the steps that are left up to the next cut, the groups behind it, the seal and the cleaning. A
+/// crash at any moment leaves an interrupted tree, and behind them the edited tree stands, with nothing pending.
+pub fn halts_go_forward()
+    ensures { HaltsGoForward }
+{}
+
+/// The way back from `at-m`, be it the commit's own or a recovery's: the marker turns round, the steps that were done are undone
+/// group by group, the last one first, and the staging directory is cleared. A crash at any moment leaves an interrupted tree, and
+/// behind them the old tree stands, with nothing pending.
+pub fn halts_go_back()
+    ensures { HaltsGoBack }
+{}
+
+/// The same from `back-m` on.
+pub fn turned_go_back()
+    ensures { TurnedGoBack }
+{}
+
+/// Recovery where `done` stands: what else stands in the staging directory is removed in whatever order, then the journal and the
+/// directory. A crash at any moment leaves an interrupted tree, and behind them the edited tree stands, with nothing pending. Where
+/// `undone` stands the same leads to the old tree.
+pub fn closed_ones_are_cleared()
+    ensures sealed { SealsGoForward }
+    ensures undone { UndoneGoBack }
+{}

@@ -1,0 +1,12 @@
+//! What an interrupted commit leaves, as a table of six rows, and the lists of calls of a commit, of its way back and of recovery,
+//! which leave nothing else at any moment.
+#![tactic(auto)]
+
+mod held;
+mod laws;
+
+pub use held::Held;
+pub use laws::{
+    closed_ones_are_cleared, commits_are_safe, failed_calls_leave_rows, halts_go_back,
+    halts_go_forward, rows_exclude_one_another, turned_go_back, unplanned_go_back,
+};

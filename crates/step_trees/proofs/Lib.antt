@@ -1,0 +1,13 @@
+pub mod Without
+pub mod NameLemmas
+pub mod StepLemmas
+pub mod RemovalLemmas
+pub mod LeadLemmas
+pub mod UndoLemmas
+pub mod UndoneLemmas
+pub mod CommuteLemmas
+pub mod GroupLemmas
+pub mod ChoiceLemmas
+pub mod CutLemmas
+pub mod PlaceLemmas
+pub mod LawLemmas
