@@ -1,0 +1,2 @@
+pub mod EndPlaces
+pub mod EndMoves

@@ -1,0 +1,6 @@
+//! Laws of plans: where the trees that the parts of a plan begin and end with stand.
+#![tactic(auto)]
+
+mod laws;
+
+pub use laws::moves_end_in_place;
