@@ -1,2 +1,5 @@
 pub mod EndPlaces
 pub mod EndMoves
+pub mod RunLemmas
+pub mod ModeSteps
+pub mod ModeCounts
