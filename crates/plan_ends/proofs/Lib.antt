@@ -3,3 +3,5 @@ pub mod EndMoves
 pub mod RunLemmas
 pub mod ModeSteps
 pub mod ModeCounts
+pub mod EndModes
+pub mod Parts

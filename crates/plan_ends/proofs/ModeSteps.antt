@@ -24,7 +24,7 @@ use Rattle.edit_laws.proofs.PlacedIsTree.{some_of}
 use Rattle.edit_rules.specs.Plans.{ModeChange}
 use Rattle.plan_moves.specs.Plan.{mode_step}
 use Rattle.step_trees.specs.Entries.{IsFileOrLink, IsTemporary, IsHeld, IsFresh}
-use Rattle.step_trees.specs.Leads.{HoldsEntries}
+use Rattle.step_trees.specs.Leads.{HoldsEntries, SetApart, SetOthers, number_of}
 use Rattle.step_trees.specs.Steps.{step_done, after, HasModeOf}
 use Rattle.plan_ends.specs.Runs.{IsRun}
 
@@ -248,6 +248,24 @@ modes_run t (m ∷ ms) u numbers holds others can =
           others.1 (λ k c. still_can t u m k numbers (others.0 k c) (can k (contains_tail m k ms c))),
     )
 
+one_number : (o : Option Node) → number_of o ≡ node_number o
+one_number None = refl
+one_number (Some (Dir m)) = refl
+one_number (Some (Link target)) = refl
+one_number (Some (File n b m)) = refl
+
+-- no two of them set the mode of one file
+pub others_set : (t : FileTree) (ms : List ModeChange) → AreOthers t ms → SetOthers t (map mode_step ms)
+others_set t [] others = tt
+others_set t (m ∷ ms) others = (all_apart ms others.0, others_set t ms others.1)
+  where
+    all_apart : (ks : List ModeChange) → ((k : ModeChange) → Contains ks k → AreOther t m k) → SetApart t (mode_step m) (map mode_step ks)
+    all_apart [] other = tt
+    all_apart (k ∷ ks) other = (
+      λ n at_m at_k. (other k (contains_head k ks)).numbers n (sym (one_number (get t m.0)) ∙ at_m) (sym (one_number (get t k.0)) ∙ at_k),
+      all_apart ks (λ x c. other x (contains_tail k x ks c)),
+    )
+
 -- ---- what the changes make of one node
 
 -- a node that none meets stays
@@ -268,7 +286,7 @@ with-with mode (Link target) = refl
 with-with mode (File n b m) = refl
 
 -- one that has the mode keeps it where each change that meets it has that mode
-keeps_mode : (t : FileTree) (ms : List ModeChange) (q : Names) (node : Node) (mode : ℕ) → ((m : ModeChange) → Contains ms m → meets m.0 (get t m.0) q node ≡ true → m.2 ≡ mode)
+pub keeps_mode : (t : FileTree) (ms : List ModeChange) (q : Names) (node : Node) (mode : ℕ) → ((m : ModeChange) → Contains ms m → meets m.0 (get t m.0) q node ≡ true → m.2 ≡ mode)
     → changed_all t ms q (with_mode mode node) ≡ with_mode mode node
 keeps_mode t [] q node mode all = refl
 keeps_mode t (m ∷ ms) q node mode all = ap (changed_all t ms q) (by_meets (cases_Bool (meets m.0 (get t m.0) q node))) ∙ keeps_mode t ms q node mode (λ k c. all k (contains_tail m k ms c))

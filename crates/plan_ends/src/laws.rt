@@ -1,8 +1,20 @@
 // Laws over the definitions alone.
-ghost use Rattle.plan_ends.specs.Laws.{MovesEndInPlace};
+ghost use Rattle.plan_ends.specs.Laws.{ModesLead, MovesEndInPlace, PartsLead};
 
 /// When no change waits any longer, the tree without the staging directory is the old one placed as in the edited tree, but for the
 /// modes; and the staging directory holds only what is put aside.
 pub fn moves_end_in_place()
     ensures { MovesEndInPlace }
+{}
+
+/// From the end of the moves the steps that change modes can be done one behind the other, no two of them set the mode of one file,
+/// and the last tree is the edited one but for the staging directory, which holds only what is put aside.
+pub fn modes_lead()
+    ensures { ModesLead }
+{}
+
+/// Where the first steps of a plan and its moves lead so far, the plan leads from the old tree to the edited one: each step is lawful
+/// and before in its turn.
+pub fn parts_lead()
+    ensures { PartsLead }
 {}

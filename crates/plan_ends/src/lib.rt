@@ -3,4 +3,4 @@
 
 mod laws;
 
-pub use laws::moves_end_in_place;
+pub use laws::{modes_lead, moves_end_in_place, parts_lead};

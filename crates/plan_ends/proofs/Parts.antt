@@ -1,0 +1,68 @@
+-- The parts of a plan, joined.
+use Rattle.std.proofs.Common.{◌≡◌, ℕ, List, [], ◌∷◌, ◌++◌, map, refl, sym, ◌∙◌, ap, subst, append_assoc}
+use Rattle.tree_core.specs.declared.node.Node.{Node}
+use Rattle.tree_core.specs.declared.changes.Changes.{Changes}
+use Rattle.tree_core.specs.FileTree.{FileTree}
+use Rattle.commit_steps.specs.declared.step.Step.{Step}
+use Rattle.commit_steps.specs.declared.step.Step.TheVariants.{MakeDir}
+use Rattle.edit_words.specs.Rows.{rows}
+use Rattle.edit_words.specs.Sight.{sight_of}
+use Rattle.edit_words.specs.Edited.{AreMadeFor, edited}
+use Rattle.edit_rules.specs.Plans.{ModeChange, AreModes}
+use Rattle.edit_laws.proofs.AskedLemmas.{made_are}
+use Rattle.plan_moves.specs.Moves.{fresh_spots}
+use Rattle.plan_moves.specs.Plan.{IsPlan, held_paths, holds, mode_step}
+use Rattle.plan_moves.specs.Waiting.{waiting}
+use Rattle.plan_laws.specs.Laws.{ArePlanned}
+use Rattle.plan_laws.proofs.Setting.{planned_rows}
+use Rattle.plan_laws.proofs.WellLemmas.{well_at_first}
+use Rattle.step_trees.specs.Entries.{rest, IsHeld, HoldsOnly}
+use Rattle.step_trees.specs.Leads.{start, HoldsEntries, LeadsFrom}
+use Rattle.step_trees.specs.Steps.{after}
+use Rattle.plan_ends.specs.Laws.{IsMoved, AreLastSteps, AreFirstSteps, AreMoves, FirstStepsLead, MovesLead, first_steps}
+use Rattle.plan_ends.specs.Runs.{IsRun}
+use Rattle.plan_ends.proofs.EndMoves.{end_moved}
+use Rattle.plan_ends.proofs.EndModes.{mode_run_others, mode_ends}
+use Rattle.plan_ends.proofs.RunLemmas.{after-append, run-append, run_ends, run_leads}
+
+module _ (t : FileTree) (changes : Changes) (made : List Node) (planned : ArePlanned t changes) (made_for : AreMadeFor t changes made) where
+  pub last_steps : (now : FileTree) (ms : List ModeChange) → HoldsEntries now → IsMoved t (rows changes) made now → AreModes (sight_of t) (rows changes) ms → AreLastSteps now (edited t (rows changes) made) (map mode_step ms)
+  last_steps now ms holds moved are =
+      let both = mode_run_others t changes made planned made_for now holds moved ms are in
+      record { run = both.0; others = both.1; ends = mode_ends t changes made planned made_for now holds moved ms are }
+
+  module _ (first_lead : FirstStepsLead t changes made) (moves_lead : MovesLead t changes made) (steps : List Step) (plan : IsPlan (sight_of t) (rows changes) steps) where
+    firsts : AreFirstSteps t (rows changes) made (first_steps t (rows changes) plan.dirs)
+    firsts = first_lead plan.dirs plan.missing
+
+    begun_holds : HoldsEntries (after (first_steps t (rows changes) plan.dirs) (start t made))
+    begun_holds = run_ends (first_steps t (rows changes) plan.dirs) (start t made) firsts.run
+
+    moves : AreMoves t (rows changes) made (after (first_steps t (rows changes) plan.dirs) (start t made)) plan.moves
+    moves = moves_lead 0 (fresh_spots 0 (rows changes)) (waiting (rows changes)) plan.moves (after (first_steps t (rows changes) plan.dirs) (start t made))
+        (record { tree = begun_holds.tree; shown = firsts.shown; well = well_at_first t (rows changes) (planned_rows t changes planned) }) begun_holds plan.moved
+
+    moved_holds : HoldsEntries (after plan.moves (after (first_steps t (rows changes) plan.dirs) (start t made)))
+    moved_holds = run_ends plan.moves (after (first_steps t (rows changes) plan.dirs) (start t made)) moves.run
+
+    moved : IsMoved t (rows changes) made (after plan.moves (after (first_steps t (rows changes) plan.dirs) (start t made)))
+    moved = end_moved t (rows changes) (planned_rows t changes planned) made (made_are t changes planned.tree planned.asked made made_for).long moves.spots
+        (after plan.moves (after (first_steps t (rows changes) plan.dirs) (start t made))) moves.shown
+
+    last : AreLastSteps (after plan.moves (after (first_steps t (rows changes) plan.dirs) (start t made))) (edited t (rows changes) made) (map mode_step plan.modes)
+    last = last_steps (after plan.moves (after (first_steps t (rows changes) plan.dirs) (start t made))) plan.modes moved_holds moved plan.changed
+
+    joined : first_steps t (rows changes) plan.dirs ++ (plan.moves ++ map mode_step plan.modes) ≡ steps
+    joined = append_assoc (holds 0 (held_paths (sight_of t) (rows changes))) (map MakeDir plan.dirs) (plan.moves ++ map mode_step plan.modes) ∙ sym plan.steps_are
+
+    pub parts_lead : LeadsFrom (start t made) steps (edited t (rows changes) made)
+    parts_lead = subst (λ (l : List Step). LeadsFrom (start t made) l (edited t (rows changes) made)) joined
+        (run_leads (first_steps t (rows changes) plan.dirs ++ (plan.moves ++ map mode_step plan.modes)) (start t made) (edited t (rows changes) made)
+        (run-append (first_steps t (rows changes) plan.dirs) (plan.moves ++ map mode_step plan.modes) (start t made) firsts.run
+        (run-append plan.moves (map mode_step plan.modes) (after (first_steps t (rows changes) plan.dirs) (start t made)) moves.run last.run))
+        (record { is = ap rest there ∙ last.ends.is; only = subst (λ (u : FileTree). HoldsOnly u (IsHeld u)) (sym there) last.ends.only }))
+      where
+        there : after (first_steps t (rows changes) plan.dirs ++ (plan.moves ++ map mode_step plan.modes)) (start t made)
+            ≡ after (map mode_step plan.modes) (after plan.moves (after (first_steps t (rows changes) plan.dirs) (start t made)))
+        there = after-append (first_steps t (rows changes) plan.dirs) (plan.moves ++ map mode_step plan.modes) (start t made)
+            ∙ after-append plan.moves (map mode_step plan.modes) (after (first_steps t (rows changes) plan.dirs) (start t made))
