@@ -48,7 +48,7 @@ along_append : (from to : Names) (xs ys : Entries) → carried_along from to (xs
 along_append from to [] ys = refl
 along_append from to (x ∷ xs) ys = ap (λ (l : Entries). placed_entry (moved from to) as_is x ∷ l) (along_append from to xs ys)
 
-along_zip : (from to : Names) (f g : Row → Names) (rs : List Row) (ns : List Node) → ((r : Row) → Contains rs r → moved from to (f r) ≡ g r) → carried_along from to (zip (map f rs) ns) ≡ zip (map g rs) ns
+pub along_zip : (from to : Names) (f g : Row → Names) (rs : List Row) (ns : List Node) → ((r : Row) → Contains rs r → moved from to (f r) ≡ g r) → carried_along from to (zip (map f rs) ns) ≡ zip (map g rs) ns
 along_zip from to f g [] ns same = refl
 along_zip from to f g (r ∷ rs) [] same = refl
 along_zip from to f g (r ∷ rs) (n ∷ ns) same =

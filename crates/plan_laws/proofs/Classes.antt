@@ -88,11 +88,11 @@ module _ (t : FileTree) (rs : List Row) (set : ArePlannedRows t rs) (aside : Nam
                   by_to (Some w) to = gone r w found.0 over found.1 to (waits None over ∙ ap (route_to (p ++ k ∷ [])) to)
 
   -- who is parked under a name
-  data Parked (p : Names) (name : List ℕ) : Type 0 where
+  pub data Parked (p : Names) (name : List ℕ) : Type 0 where
     as_held : aside p ≡ Some (staged name) → Parked p name
     as_waiting : (w : Waiting) → Contains ws w → w.is_away ≡ true → w.row.source ≡ Some p → spots w.row.line ≡ staged name → Parked p name
 
-  parked_as : (p : Names) (name : List ℕ) → route_so_far_by spots ws p (aside p) (row_from rs p) ≡ Sent (staged name) → Parked p name
+  pub parked_as : (p : Names) (name : List ℕ) → route_so_far_by spots ws p (aside p) (row_from rs p) ≡ Sent (staged name) → Parked p name
   parked_as p name is = by_aside (aside p) refl
     where
       by_aside : (h : Option Names) → aside p ≡ h → Parked p name
@@ -122,7 +122,7 @@ module _ (t : FileTree) (rs : List Row) (set : ArePlannedRows t rs) (aside : Nam
                   by_to None to = let no_way : Stays ≡ Sent (staged name) = sym (ap (route_to p) to) ∙ waits None over in absurd cc
                   by_to (Some v) to = absurd (not_reserved t rs set r v (name ∷ []) at.0 to (route_to-sent p v (staged name) (sym (ap (route_to p) to) ∙ waits None over)).0)
 
-  hold_no_spot : (p q : Names) (name : List ℕ) → aside p ≡ Some (staged name) → (w : Waiting) → Contains ws w → w.is_away ≡ true → spots w.row.line ≡ staged name → ⊥
+  pub hold_no_spot : (p q : Names) (name : List ℕ) → aside p ≡ Some (staged name) → (w : Waiting) → Contains ws w → w.is_away ≡ true → spots w.row.line ≡ staged name → ⊥
   hold_no_spot p q name e w c away at = by_spot (well.spots_staged w c away)
     where
       m : (m : ℕ) × (staged name ≡ staged (held m))

@@ -115,6 +115,39 @@ module _ (sight : Sight) (all : List Row) where
       let more = held_few rs in
       omega arith
 
+-- what one change puts aside
+pub data HeldBy (t : FileTree) (rs : List Row) (r : Row) (p : Names) : Type 0 where
+  replaces : r.to ≡ Some p → Stands t p → is_source rs p ≡ false → HeldBy t rs r p
+  gives_up : is_given_up r ≡ true → r.source ≡ Some p → HeldBy t rs r p
+
+module _ (t : FileTree) (rs : List Row) (r : Row) (p : Names) where
+  pub replaced : victim_of (sight_of t) rs r ≡ Some p → (r.to ≡ Some p) × Stands t p × (is_source rs p ≡ false)
+  replaced is = by_to r.to refl
+    where
+      by_to : (o : Option Names) → r.to ≡ o → (r.to ≡ Some p) × Stands t p × (is_source rs p ≡ false)
+      by_to None to = absurd (none-some p (sym (ap (victim_at (sight_of t) rs) to) ∙ is))
+      by_to (Some w) to = by_test (cases_Bool (is_some ((sight_of t).at w) && not (is_source rs w)))
+        where
+          at : cond (is_some ((sight_of t).at w) && not (is_source rs w)) (Some w) None ≡ Some p
+          at = sym (ap (victim_at (sight_of t) rs) to) ∙ is
+
+          by_test : ((is_some ((sight_of t).at w) && not (is_source rs w)) ≡ true) ⊎ ((is_some ((sight_of t).at w) && not (is_source rs w)) ≡ false) → (r.to ≡ Some p) × Stands t p × (is_source rs p ≡ false)
+          by_test (inl passes) =
+              let same : w ≡ p = same_Some w p (sym (cond-true _ (Some w) None passes) ∙ at) in
+              let parts = and_parts (is_some ((sight_of t).at w)) _ passes in
+              (to ∙ ap (λ (l : Names). Some l) same, subst (Stands t) same ((stands_decides t w).0 parts.0), ap (is_source rs) (sym same) ∙ not-true _ parts.1)
+          by_test (inr fails) = absurd (none-some p (sym (cond-false _ (Some w) None fails) ∙ at))
+
+  pub held_by_as : Contains (held_by (sight_of t) rs r) p → HeldBy t rs r p
+  held_by_as c = elim (Contains-append_cases (listed (victim_of (sight_of t) rs r)) (cond (is_given_up r) (listed r.source) []) p c) [
+    | inl first ↦ let v = replaced (listed_is _ p first) in replaces v.0 v.1 v.2
+    | inr left ↦ by_given (cases_Bool (is_given_up r)) left
+  ]
+    where
+      by_given : (is_given_up r ≡ true) ⊎ (is_given_up r ≡ false) → Contains (cond (is_given_up r) (listed r.source) []) p → HeldBy t rs r p
+      by_given (inl is) c = gives_up is (listed_is r.source p (subst (λ (l : List Names). Contains l p) (cond-true _ (listed r.source) [] is) c))
+      by_given (inr isnt) c = absurd (contains_none p (subst (λ (l : List Names). Contains l p) (cond-false _ (listed r.source) [] isnt) c))
+
 module _ (t : FileTree) (rs : List Row) (set : ArePlannedRows t rs) where
   pub held_of : Names → Option Names
   held_of p = held_at 0 (held_paths (sight_of t) rs) p

@@ -8,3 +8,14 @@ pub mod Held
 pub mod Classes
 pub mod AddedSoFar
 pub mod Places
+pub mod Turned
+pub mod AtSource
+pub mod ParentNow
+pub mod Moved
+pub mod FreshMoved
+pub mod FreshCarried
+pub mod EntryNames
+pub mod MovesLead
+pub mod HeldOnce
+pub mod HoldsLead
+pub mod FirstLemmas

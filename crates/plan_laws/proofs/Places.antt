@@ -116,7 +116,7 @@ module _ (t : FileTree) (rs : List Row) (set : ArePlannedRows t rs) where
     pub new_apart : IsApart (Stands t) (new_links_route t rs spots ws)
     new_apart = now_apart t rs set (aside_but_links t rs) links_apart n spots ws well
 
-    same_route : (p : Names) → retargets_row (row_from rs p) ≡ false → new_links_route t rs spots ws p ≡ route_so_far t rs spots ws p
+    pub same_route : (p : Names) → retargets_row (row_from rs p) ≡ false → new_links_route t rs spots ws p ≡ route_so_far t rs spots ws p
     same_route p old = ap (λ (h : Option Names). route_so_far_by spots ws p h (row_from rs p)) (cond-false (retargets_row (row_from rs p)) None _ old)
 
     -- what isn't such a link has one place by both

@@ -3,4 +3,4 @@
 
 mod laws;
 
-pub use laws::moves_keep_waiting_well;
+pub use laws::{all_wait_at_first, holds_lead_on, moves_keep_waiting_well, moves_lead_on};
