@@ -5,3 +5,5 @@ pub mod ModeSteps
 pub mod ModeCounts
 pub mod EndModes
 pub mod Parts
+pub mod EntriesKept
+pub mod MoveRuns
