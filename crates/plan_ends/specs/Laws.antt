@@ -12,7 +12,7 @@ use Rattle.edit_words.specs.Rows.{rows, is_kept, route_of}
 use Rattle.edit_words.specs.Sight.{sight_of}
 use Rattle.edit_words.specs.Edited.{IsPlaced, AreMadeFor, added_by, edited, is_fresh}
 use Rattle.edit_rules.specs.Plans.{ModeChange, AreMissing, AreModes}
-use Rattle.plan_laws.specs.Laws.{ArePlanned}
+use Rattle.plan_laws.specs.Laws.{ArePlanned, HaveNames, NoneWaits}
 use Rattle.plan_moves.specs.Moves.{Moves, Spots, fresh_spots}
 use Rattle.plan_moves.specs.Plan.{IsPlan, held_paths, holds, mode_step}
 use Rattle.plan_moves.specs.SoFar.{Invariant, IsSoFar, same_node}
@@ -65,22 +65,17 @@ pub record AreFirstSteps (t : FileTree) (rs : List Row) (made : List Node) (step
   pub run : IsRun (start t made) steps
   pub shown : IsSoFar t rs made (fresh_spots 0 rs) (waiting rs) (after steps (start t made))
 
--- Moves can be done one behind the other, and behind them nothing waits.
-pub record AreMoves (t : FileTree) (rs : List Row) (made : List Node) (now : FileTree) (moves : List Step) : Type 0 where
-  pub run : IsRun now moves
-  pub spots : Spots
-  pub shown : IsSoFar t rs made spots [] (after moves now)
-
 abbrev pub FirstStepsLead : FileTree → Changes → List Node → Type 0
 FirstStepsLead t changes made = (dirs : List Names) → AreMissing (sight_of t) (rows changes) dirs → AreFirstSteps t (rows changes) made (first_steps t (rows changes) dirs)
 
-abbrev pub MovesLead : FileTree → Changes → List Node → Type 0
-MovesLead t changes made =
-    (n : ℕ) (spots : Spots) (ws : List Waiting) (moves : List Step) (now : FileTree) → Invariant t (rows changes) made n spots ws now → HoldsEntries now
-    → Moves n spots ws moves → AreMoves t (rows changes) made now moves
+-- From between two moves all further moves can be done one behind the other, and behind them nothing waits.
+abbrev pub MovesRun : Type 0
+MovesRun =
+    (t now : FileTree) (changes : Changes) (made : List Node) (n : ℕ) (spots : Spots) (ws : List Waiting) (moves : List Step) → ArePlanned t changes → HaveNames (rows changes) → AreAsMany (rows changes) made
+    → Invariant t (rows changes) made n spots ws now → HoldsEntries now → Moves n spots ws moves → IsRun now moves × NoneWaits t (rows changes) made (after moves now)
 
--- Where the first steps and the moves lead so far, each plan leads from the old tree to the edited one.
+-- Where the first steps lead so far, each plan leads from the old tree to the edited one.
 abbrev pub PartsLead : Type 0
 PartsLead =
-    (t : FileTree) (changes : Changes) (made : List Node) (steps : List Step) → ArePlanned t changes → AreMadeFor t changes made → FirstStepsLead t changes made → MovesLead t changes made
+    (t : FileTree) (changes : Changes) (made : List Node) (steps : List Step) → ArePlanned t changes → HaveNames (rows changes) → AreMadeFor t changes made → FirstStepsLead t changes made
     → IsPlan (sight_of t) (rows changes) steps → LeadsFrom (start t made) steps (edited t (rows changes) made)

@@ -1,5 +1,11 @@
 // Laws over the definitions alone.
-ghost use Rattle.plan_ends.specs.Laws.{ModesLead, MovesEndInPlace, PartsLead};
+ghost use Rattle.plan_ends.specs.Laws.{ModesLead, MovesEndInPlace, MovesRun, PartsLead};
+
+/// From between two moves all further moves can be done one behind the other, whatever the order in which ready changes are carried
+/// out, and each tree on the way has only entries of its kinds in the staging directory. Then no change waits.
+pub fn moves_run()
+    ensures { MovesRun }
+{}
 
 /// When no change waits any longer, the tree without the staging directory is the old one placed as in the edited tree, but for the
 /// modes; and the staging directory holds only what is put aside.
@@ -13,7 +19,7 @@ pub fn modes_lead()
     ensures { ModesLead }
 {}
 
-/// Where the first steps of a plan and its moves lead so far, the plan leads from the old tree to the edited one: each step is lawful
+/// Where the first steps of a plan lead so far, the plan leads from the old tree to the edited one: each step is lawful
 /// and before in its turn.
 pub fn parts_lead()
     ensures { PartsLead }
