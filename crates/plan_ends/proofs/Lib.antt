@@ -4,6 +4,7 @@ pub mod RunLemmas
 pub mod ModeSteps
 pub mod ModeCounts
 pub mod EndModes
-pub mod Parts
 pub mod EntriesKept
 pub mod MoveRuns
+pub mod Parts
+pub mod Dirs
