@@ -32,7 +32,7 @@ use Rattle.edit_words.specs.declared.row.Route.{Route}
 use Rattle.edit_words.specs.declared.row.Route.TheVariants.{Stays, Sent}
 use Rattle.edit_words.specs.Place.{routed, place, ancestors, IsAbove}
 use Rattle.edit_words.specs.Refusals.{missing_above}
-use Rattle.edit_words.specs.Rows.{written, is_elsewhere, is_same_path}
+use Rattle.edit_words.specs.Rows.{written, is_elsewhere, is_same_path, last_name}
 use Rattle.edit_words.specs.Sight.{sight_of}
 use Rattle.edit_words.specs.Edited.{Entries, Came, IsPlaced, is_fresh, missing}
 use Rattle.edit_words.proofs.SameLemmas.{same_path, same_itself}
@@ -41,7 +41,7 @@ use Rattle.edit_laws.proofs.ListLemmas.{any_parts, any_from, contains_head, cont
 use Rattle.edit_laws.proofs.PlaceLemmas.{by_last, place-push}
 use Rattle.edit_laws.proofs.PlacedIsTree.{some_of}
 use Rattle.edit_laws.proofs.PlacedLemmas.{find-append_some, find-append_none, tie_itself}
-use Rattle.edit_laws.proofs.RowLemmas.{far_to, written-to}
+use Rattle.edit_laws.proofs.RowLemmas.{far_to, front_last, written-to}
 use Rattle.edit_laws.proofs.AddedLemmas.{missing_parts, missing_there, zip_pair}
 use Rattle.edit_rules.specs.Plans.{AreMissing}
 use Rattle.plan_moves.specs.Moves.{fresh_spots}
@@ -209,7 +209,7 @@ module _ (t : FileTree) (rs : List Row) (set : ArePlannedRows t rs) (names : Hav
       (λ p n before path e. place-push (aside_route (held_paths (sight_of t) rs)) p n ∙ ap (λ (h : Option Names). routed (aside_route_by h) (place (aside_route (held_paths (sight_of t) rs)) p) n) e)
 
   -- what was added is in the staging directory, or is one of the directories
-  found_as : (front : List Names) (q : Names) (node : Node) → find path_cmp q (made_at_first rs made ++ map as_dir front) ≡ Some node → ((rest : Names) × (q ≡ staging ++ rest)) ⊎ Contains front q
+  pub found_as : (front : List Names) (q : Names) (node : Node) → find path_cmp q (made_at_first rs made ++ map as_dir front) ≡ Some node → ((rest : Names) × (q ≡ staging ++ rest)) ⊎ Contains front q
   found_as front q node e = by_first (find path_cmp q (made_at_first rs made)) refl
     where
       by_first : (o : Option Node) → find path_cmp q (made_at_first rs made) ≡ o → ((rest : Names) × (q ≡ staging ++ rest)) ⊎ Contains front q
@@ -348,3 +348,50 @@ module _ (t : FileTree) (rs : List Row) (set : ArePlannedRows t rs) (names : Hav
     dir_placed = subst (λ (l : Entries). IsPlaced l (λ p. true) (place (aside_route (held_paths (sight_of t) rs))) same_node t (insert u (q ++ n ∷ []) (Dir 0o755)))
         (append_assoc (made_at_first rs made) (map as_dir front) (as_dir (q ++ n ∷ []) ∷ []) ∙ ap (λ (l : Entries). made_at_first rs made ++ l) (sym (dirs_append front ((q ++ n ∷ []) ∷ []))))
         (made_more (made_at_first rs made ++ map as_dir front) (place (aside_route (held_paths (sight_of t) rs))) t u (q ++ n ∷ []) absent is)
+
+  -- ---- all of them
+
+  record NextDir (front : List Names) (d : Names) (u : FileTree) : Type 0 where
+    pub outside : IsOutside d
+    pub before : IsBefore (MakeDir d) u
+    pub holds : HoldsEntries (insert u d (Dir 0o755))
+    pub placed : IsPlaced (made_at_first rs made ++ map as_dir (front ++ d ∷ [])) (λ p. true) (place (aside_route (held_paths (sight_of t) rs))) same_node t (insert u d (Dir 0o755))
+
+  next_dir : (front rest : List Names) (d : Names) (all : dirs ≡ front ++ d ∷ rest) (u : FileTree)
+      → IsPlaced (made_at_first rs made ++ map as_dir front) (λ p. true) (place (aside_route (held_paths (sight_of t) rs))) same_node t u → HoldsEntries u → NextDir front d u
+  next_dir front rest d all u is holds = subst (λ (l : Names). NextDir front l u) (sym split) (record {
+    outside = dir_outside front rest (parent d) (last_name d) there u is holds;
+    before = dir_before front rest (parent d) (last_name d) there u is holds;
+    holds = dir_holds front rest (parent d) (last_name d) there u is holds;
+    placed = dir_placed front rest (parent d) (last_name d) there u is holds;
+  })
+    where
+      split : d ≡ parent d ++ last_name d ∷ []
+      split = front_last d (not_root_missing d (missing_listed d (subst (λ (l : List Names). Contains l d) (sym all) (Contains-append_right front (d ∷ rest) d (contains_head d rest)))))
+
+      there : dirs ≡ front ++ (parent d ++ last_name d ∷ []) ∷ rest
+      there = all ∙ ap (λ (l : Names). front ++ l ∷ rest) split
+
+  pub dirs_run : (rest front : List Names) (u : FileTree) → dirs ≡ front ++ rest
+      → IsPlaced (made_at_first rs made ++ map as_dir front) (λ p. true) (place (aside_route (held_paths (sight_of t) rs))) same_node t u → HoldsEntries u
+      → IsRun u (map MakeDir rest) × IsPlaced (made_at_first rs made ++ map as_dir dirs) (λ p. true) (place (aside_route (held_paths (sight_of t) rs))) same_node t (after (map MakeDir rest) u)
+  dirs_run [] front u all is holds =
+      (holds, subst (λ (l : List Names). IsPlaced (made_at_first rs made ++ map as_dir l) (λ p. true) (place (aside_route (held_paths (sight_of t) rs))) same_node t u) (sym (all ∙ append-nil front)) is)
+  dirs_run (d ∷ rest) front u all is holds =
+      let on = next_dir front rest d all u is holds in
+      let more = dirs_run rest (front ++ d ∷ []) (insert u d (Dir 0o755)) (all ∙ sym (append_assoc front (d ∷ []) rest)) on.placed on.holds in
+      ((holds, on.outside, on.before, more.0), more.1)
+
+  -- in whatever order they are listed
+  pub same_dirs : (q : Names) → find path_cmp q (made_at_first rs made ++ map as_dir dirs) ≡ find path_cmp q (made_at_first rs made ++ map as_dir (missing t rs))
+  same_dirs q = by_first (find path_cmp q (made_at_first rs made)) refl
+    where
+      by_dirs : (o p : Option Node) → find path_cmp q (map as_dir dirs) ≡ o → find path_cmp q (map as_dir (missing t rs)) ≡ p → find path_cmp q (map as_dir dirs) ≡ find path_cmp q (map as_dir (missing t rs))
+      by_dirs (Some x) p e f = let d = dirs_only dirs q x e in e ∙ ap (λ (n : Node). Some n) d.1 ∙ sym (find-dirs (missing t rs) q (missing_listed q d.0))
+      by_dirs None (Some y) e f = let d = dirs_only (missing t rs) q y f in absurd (none-some (Dir 0o755) (sym e ∙ find-dirs dirs q (listed_missing q d.0)))
+      by_dirs None None e f = e ∙ sym f
+
+      by_first : (o : Option Node) → find path_cmp q (made_at_first rs made) ≡ o → find path_cmp q (made_at_first rs made ++ map as_dir dirs) ≡ find path_cmp q (made_at_first rs made ++ map as_dir (missing t rs))
+      by_first (Some x) e = find-append_some q (made_at_first rs made) (map as_dir dirs) x e ∙ sym (find-append_some q (made_at_first rs made) (map as_dir (missing t rs)) x e)
+      by_first None e = find-append_none q (made_at_first rs made) (map as_dir dirs) e ∙ by_dirs (find path_cmp q (map as_dir dirs)) (find path_cmp q (map as_dir (missing t rs))) refl refl
+          ∙ sym (find-append_none q (made_at_first rs made) (map as_dir (missing t rs)) e)

@@ -39,7 +39,7 @@ module _ (t : FileTree) (from to : Names) (holds : HoldsEntries t) (can : CanRen
   staging_same = ap (get (renamed t from to)) (sym (moved-by from to staging None (none_below from staging (not_above from lawful)))) ∙ get-moved t from to holds.tree can staging (dir_stands _ holds.stands)
 
   -- what stands at a place that isn't below the new path stood there before
-  still : (q : Names) (node : Node) → ((r : Names) → to ++ r ≡ q → ⊥) → get (renamed t from to) q ≡ Some node → get t q ≡ Some node
+  pub still : (q : Names) (node : Node) → ((r : Names) → to ++ r ≡ q → ⊥) → get (renamed t from to) q ≡ Some node → get t q ≡ Some node
   still q node other e = let c = came_moved t from to holds.tree can q node e in go c.0 c.1 c.2 (rest_below from c.0) refl
     where
       go : (x : Names) → moved from to x ≡ q → get t x ≡ Some node → (o : Option Names) → rest_below from x ≡ o → get t q ≡ Some node

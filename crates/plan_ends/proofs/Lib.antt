@@ -6,5 +6,6 @@ pub mod ModeCounts
 pub mod EndModes
 pub mod EntriesKept
 pub mod MoveRuns
-pub mod Parts
 pub mod Dirs
+pub mod FirstSteps
+pub mod Parts

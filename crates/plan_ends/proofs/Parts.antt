@@ -21,10 +21,11 @@ use Rattle.plan_laws.proofs.WellLemmas.{well_at_first}
 use Rattle.step_trees.specs.Entries.{rest, IsHeld, HoldsOnly}
 use Rattle.step_trees.specs.Leads.{start, HoldsEntries, LeadsFrom}
 use Rattle.step_trees.specs.Steps.{after}
-use Rattle.plan_ends.specs.Laws.{IsMoved, AreLastSteps, AreFirstSteps, AreAsMany, FirstStepsLead, first_steps}
+use Rattle.plan_ends.specs.Laws.{IsMoved, AreLastSteps, AreFirstSteps, AreAsMany, StartsWell, first_steps}
 use Rattle.plan_ends.specs.Runs.{IsRun}
 use Rattle.plan_ends.proofs.EndMoves.{end_moved}
 use Rattle.plan_ends.proofs.EndModes.{mode_run_others, mode_ends}
+use Rattle.plan_ends.proofs.FirstSteps.{first_steps_lead}
 use Rattle.plan_ends.proofs.MoveRuns.{moves_run}
 use Rattle.plan_ends.proofs.RunLemmas.{after-append, run-append, run_ends, run_leads}
 
@@ -43,9 +44,9 @@ module _ (t : FileTree) (changes : Changes) (made : List Node) (planned : ArePla
   as_many : AreAsMany (rows changes) made
   as_many = (made_are t changes planned.tree planned.asked made made_for).long
 
-  module _ (names : HaveNames (rows changes)) (first_lead : FirstStepsLead t changes made) (steps : List Step) (plan : IsPlan (sight_of t) (rows changes) steps) where
+  module _ (names : HaveNames (rows changes)) (begins : StartsWell t (rows changes) made) (steps : List Step) (plan : IsPlan (sight_of t) (rows changes) steps) where
     firsts : AreFirstSteps t (rows changes) made (first_steps t (rows changes) plan.dirs)
-    firsts = first_lead plan.dirs plan.missing
+    firsts = first_steps_lead t (rows changes) (planned_rows t changes planned) names made plan.dirs plan.missing begins
 
     begun_holds : HoldsEntries (after (first_steps t (rows changes) plan.dirs) (start t made))
     begun_holds = run_ends (first_steps t (rows changes) plan.dirs) (start t made) firsts.run

@@ -12,7 +12,7 @@ use Rattle.edit_words.specs.Rows.{rows, is_kept, route_of}
 use Rattle.edit_words.specs.Sight.{sight_of}
 use Rattle.edit_words.specs.Edited.{IsPlaced, AreMadeFor, added_by, edited, is_fresh}
 use Rattle.edit_rules.specs.Plans.{ModeChange, AreMissing, AreModes}
-use Rattle.plan_laws.specs.Laws.{ArePlanned, HaveNames, NoneWaits}
+use Rattle.plan_laws.specs.Laws.{ArePlanned, HaveNames, NoneWaits, IsPutAside}
 use Rattle.plan_moves.specs.Moves.{Moves, Spots, fresh_spots}
 use Rattle.plan_moves.specs.Plan.{IsPlan, held_paths, holds, mode_step}
 use Rattle.plan_moves.specs.SoFar.{Invariant, IsSoFar, same_node}
@@ -65,8 +65,15 @@ pub record AreFirstSteps (t : FileTree) (rs : List Row) (made : List Node) (step
   pub run : IsRun (start t made) steps
   pub shown : IsSoFar t rs made (fresh_spots 0 rs) (waiting rs) (after steps (start t made))
 
-abbrev pub FirstStepsLead : FileTree → Changes → List Node → Type 0
-FirstStepsLead t changes made = (dirs : List Names) → AreMissing (sight_of t) (rows changes) dirs → AreFirstSteps t (rows changes) made (first_steps t (rows changes) dirs)
+-- The old tree with the entries that are made in its staging directory is a tree, and holds only them.
+pub record StartsWell (t : FileTree) (rs : List Row) (made : List Node) : Type 0 where
+  pub put : IsPutAside t rs made [] (start t made)
+  pub holds : HoldsEntries (start t made)
+
+abbrev pub FirstStepsLead : Type 0
+FirstStepsLead =
+    (t : FileTree) (changes : Changes) (made : List Node) (dirs : List Names) → ArePlanned t changes → HaveNames (rows changes) → StartsWell t (rows changes) made
+    → AreMissing (sight_of t) (rows changes) dirs → AreFirstSteps t (rows changes) made (first_steps t (rows changes) dirs)
 
 -- From between two moves all further moves can be done one behind the other, and behind them nothing waits.
 abbrev pub MovesRun : Type 0
@@ -74,8 +81,8 @@ MovesRun =
     (t now : FileTree) (changes : Changes) (made : List Node) (n : ℕ) (spots : Spots) (ws : List Waiting) (moves : List Step) → ArePlanned t changes → HaveNames (rows changes) → AreAsMany (rows changes) made
     → Invariant t (rows changes) made n spots ws now → HoldsEntries now → Moves n spots ws moves → IsRun now moves × NoneWaits t (rows changes) made (after moves now)
 
--- Where the first steps lead so far, each plan leads from the old tree to the edited one.
+-- Each plan leads from the old tree to the edited one.
 abbrev pub PartsLead : Type 0
 PartsLead =
-    (t : FileTree) (changes : Changes) (made : List Node) (steps : List Step) → ArePlanned t changes → HaveNames (rows changes) → AreMadeFor t changes made → FirstStepsLead t changes made
+    (t : FileTree) (changes : Changes) (made : List Node) (steps : List Step) → ArePlanned t changes → HaveNames (rows changes) → AreMadeFor t changes made → StartsWell t (rows changes) made
     → IsPlan (sight_of t) (rows changes) steps → LeadsFrom (start t made) steps (edited t (rows changes) made)

@@ -1,5 +1,17 @@
 // Laws over the definitions alone.
-ghost use Rattle.plan_ends.specs.Laws.{ModesLead, MovesEndInPlace, MovesRun, PartsLead};
+ghost use Rattle.plan_ends.specs.Laws.{
+  FirstStepsLead,
+  ModesLead,
+  MovesEndInPlace,
+  MovesRun,
+  PartsLead,
+};
+
+/// From the old tree with the entries that are made in its staging directory what is replaced or given up can be put aside, and then
+/// the missing directories can be made. Then all changes wait.
+pub fn first_steps_lead()
+    ensures { FirstStepsLead }
+{}
 
 /// From between two moves all further moves can be done one behind the other, whatever the order in which ready changes are carried
 /// out, and each tree on the way has only entries of its kinds in the staging directory. Then no change waits.
@@ -19,7 +31,7 @@ pub fn modes_lead()
     ensures { ModesLead }
 {}
 
-/// Where the first steps of a plan lead so far, the plan leads from the old tree to the edited one: each step is lawful
+/// From such a tree the steps of a plan lead from the old tree to the edited one: each step is lawful
 /// and before in its turn.
 pub fn parts_lead()
     ensures { PartsLead }

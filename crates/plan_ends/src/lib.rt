@@ -3,4 +3,4 @@
 
 mod laws;
 
-pub use laws::{modes_lead, moves_end_in_place, moves_run, parts_lead};
+pub use laws::{first_steps_lead, modes_lead, moves_end_in_place, moves_run, parts_lead};
