@@ -8,4 +8,5 @@ pub mod EntriesKept
 pub mod MoveRuns
 pub mod Dirs
 pub mod FirstSteps
+pub mod Starts
 pub mod Parts

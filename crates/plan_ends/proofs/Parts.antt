@@ -21,12 +21,13 @@ use Rattle.plan_laws.proofs.WellLemmas.{well_at_first}
 use Rattle.step_trees.specs.Entries.{rest, IsHeld, HoldsOnly}
 use Rattle.step_trees.specs.Leads.{start, HoldsEntries, LeadsFrom}
 use Rattle.step_trees.specs.Steps.{after}
-use Rattle.plan_ends.specs.Laws.{IsMoved, AreLastSteps, AreFirstSteps, AreAsMany, StartsWell, first_steps}
+use Rattle.plan_ends.specs.Laws.{IsMoved, AreLastSteps, AreFirstSteps, AreAsMany, first_steps}
 use Rattle.plan_ends.specs.Runs.{IsRun}
 use Rattle.plan_ends.proofs.EndMoves.{end_moved}
 use Rattle.plan_ends.proofs.EndModes.{mode_run_others, mode_ends}
 use Rattle.plan_ends.proofs.FirstSteps.{first_steps_lead}
 use Rattle.plan_ends.proofs.MoveRuns.{moves_run}
+use Rattle.plan_ends.proofs.Starts.{starts_well}
 use Rattle.plan_ends.proofs.RunLemmas.{after-append, run-append, run_ends, run_leads}
 
 pub moves_on : (t : FileTree) (changes : Changes) → ArePlanned t changes → HaveNames (rows changes) → (made : List Node) → AreAsMany (rows changes) made → (n : ℕ) (spots : Spots) (ws : List Waiting) (steps : List Step) (now : FileTree)
@@ -44,9 +45,9 @@ module _ (t : FileTree) (changes : Changes) (made : List Node) (planned : ArePla
   as_many : AreAsMany (rows changes) made
   as_many = (made_are t changes planned.tree planned.asked made made_for).long
 
-  module _ (names : HaveNames (rows changes)) (begins : StartsWell t (rows changes) made) (steps : List Step) (plan : IsPlan (sight_of t) (rows changes) steps) where
+  module _ (names : HaveNames (rows changes)) (steps : List Step) (plan : IsPlan (sight_of t) (rows changes) steps) where
     firsts : AreFirstSteps t (rows changes) made (first_steps t (rows changes) plan.dirs)
-    firsts = first_steps_lead t (rows changes) (planned_rows t changes planned) names made plan.dirs plan.missing begins
+    firsts = first_steps_lead t (rows changes) (planned_rows t changes planned) names made plan.dirs plan.missing (starts_well t changes planned made made_for)
 
     begun_holds : HoldsEntries (after (first_steps t (rows changes) plan.dirs) (start t made))
     begun_holds = run_ends (first_steps t (rows changes) plan.dirs) (start t made) firsts.run
@@ -68,8 +69,8 @@ module _ (t : FileTree) (changes : Changes) (made : List Node) (planned : ArePla
     joined : first_steps t (rows changes) plan.dirs ++ (plan.moves ++ map mode_step plan.modes) ≡ steps
     joined = append_assoc (holds 0 (held_paths (sight_of t) (rows changes))) (map MakeDir plan.dirs) (plan.moves ++ map mode_step plan.modes) ∙ sym plan.steps_are
 
-    pub parts_lead : LeadsFrom (start t made) steps (edited t (rows changes) made)
-    parts_lead = subst (λ (l : List Step). LeadsFrom (start t made) l (edited t (rows changes) made)) joined
+    pub plan_leads : LeadsFrom (start t made) steps (edited t (rows changes) made)
+    plan_leads = subst (λ (l : List Step). LeadsFrom (start t made) l (edited t (rows changes) made)) joined
         (run_leads (first_steps t (rows changes) plan.dirs ++ (plan.moves ++ map mode_step plan.modes)) (start t made) (edited t (rows changes) made)
         (run-append (first_steps t (rows changes) plan.dirs) (plan.moves ++ map mode_step plan.modes) (start t made) firsts.run
         (run-append plan.moves (map mode_step plan.modes) (after (first_steps t (rows changes) plan.dirs) (start t made)) moves.0 last.run))

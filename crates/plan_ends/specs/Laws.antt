@@ -70,9 +70,12 @@ pub record StartsWell (t : FileTree) (rs : List Row) (made : List Node) : Type 0
   pub put : IsPutAside t rs made [] (start t made)
   pub holds : HoldsEntries (start t made)
 
+abbrev pub EachStartsWell : Type 0
+EachStartsWell = (t : FileTree) (changes : Changes) (made : List Node) → ArePlanned t changes → AreMadeFor t changes made → StartsWell t (rows changes) made
+
 abbrev pub FirstStepsLead : Type 0
 FirstStepsLead =
-    (t : FileTree) (changes : Changes) (made : List Node) (dirs : List Names) → ArePlanned t changes → HaveNames (rows changes) → StartsWell t (rows changes) made
+    (t : FileTree) (changes : Changes) (made : List Node) (dirs : List Names) → ArePlanned t changes → HaveNames (rows changes) → AreMadeFor t changes made
     → AreMissing (sight_of t) (rows changes) dirs → AreFirstSteps t (rows changes) made (first_steps t (rows changes) dirs)
 
 -- From between two moves all further moves can be done one behind the other, and behind them nothing waits.
@@ -82,7 +85,7 @@ MovesRun =
     → Invariant t (rows changes) made n spots ws now → HoldsEntries now → Moves n spots ws moves → IsRun now moves × NoneWaits t (rows changes) made (after moves now)
 
 -- Each plan leads from the old tree to the edited one.
-abbrev pub PartsLead : Type 0
-PartsLead =
-    (t : FileTree) (changes : Changes) (made : List Node) (steps : List Step) → ArePlanned t changes → HaveNames (rows changes) → AreMadeFor t changes made → StartsWell t (rows changes) made
+abbrev pub PlansLead : Type 0
+PlansLead =
+    (t : FileTree) (changes : Changes) (made : List Node) (steps : List Step) → ArePlanned t changes → HaveNames (rows changes) → AreMadeFor t changes made
     → IsPlan (sight_of t) (rows changes) steps → LeadsFrom (start t made) steps (edited t (rows changes) made)

@@ -1,11 +1,17 @@
 // Laws over the definitions alone.
 ghost use Rattle.plan_ends.specs.Laws.{
+  EachStartsWell,
   FirstStepsLead,
   ModesLead,
   MovesEndInPlace,
   MovesRun,
-  PartsLead,
+  PlansLead,
 };
+
+/// The old tree with the entries that are made in its staging directory is a tree, in which all else stands as before.
+pub fn each_starts_well()
+    ensures { EachStartsWell }
+{}
 
 /// From the old tree with the entries that are made in its staging directory what is replaced or given up can be put aside, and then
 /// the missing directories can be made. Then all changes wait.
@@ -31,8 +37,8 @@ pub fn modes_lead()
     ensures { ModesLead }
 {}
 
-/// From such a tree the steps of a plan lead from the old tree to the edited one: each step is lawful
-/// and before in its turn.
-pub fn parts_lead()
-    ensures { PartsLead }
+/// The steps of a plan lead from the old tree to the edited one: each is lawful and before in its turn, each tree on the way has only
+/// entries of their kinds in the staging directory, and the last one without that directory is the edited tree.
+pub fn plans_lead()
+    ensures { PlansLead }
 {}
