@@ -1,7 +1,7 @@
 -- The missing directories can be made, one behind the other.
-use Rattle.std.proofs.Common.{◌≡◌, ◌≢◌, ◌⊎◌, inl, inr, ⊎_elim, ℕ, ◌≤◌, Bool, true, false, cond, not, ◌&&◌, List, [], ◌∷◌, ◌++◌, map, filter, refl, sym, ◌∙◌, ap, subst, arith, append_assoc, Option, Some, None, is_some, IsTrue, if◌then◌else◌}
+use Rattle.std.proofs.Common.{◌≡◌, ◌≢◌, ◌⊎◌, inl, inr, ⊎_elim, ℕ, ◌≤◌, true, false, cond, not, ◌&&◌, List, [], ◌∷◌, ◌++◌, map, filter, refl, sym, ◌∙◌, ap, subst, arith, append_assoc, Option, Some, None, is_some, IsTrue, if◌then◌else◌}
 use Rattle.std.specs.Prelude.{Contains}
-use Rattle.std.specs.List.{zip, list_all, list_any, flat_map}
+use Rattle.std.specs.List.{zip, list_all, flat_map}
 use Rattle.std.specs.List.Sorted.{IsStrictlySortedBy}
 use Rattle.std.specs.FinMap.{get, find, insert}
 use Rattle.std.specs.Cmp.{tied_itself as total_tied_itself}
@@ -10,26 +10,23 @@ use Rattle.std.specs.Ordering.{is_eq, ordering_then}
 use Rattle.std.specs.Str.{is_utf8}
 use Rattle.std.specs.declared.cmp.Ordering.TheVariants.{Less}
 use Rattle.std.proofs.lemmas.Bool.{cond-true, cond-false, cases_Bool, and_parts, and_from, or_cases}
-use Rattle.std.proofs.lemmas.Option.{none-some, same_Some}
+use Rattle.std.proofs.lemmas.Option.{none-some}
 use Rattle.std.proofs.lemmas.List.{append-nil}
 use Rattle.std.proofs.lemmas.List.Elements.{All-contains, Contains-append_left, Contains-append_right, Contains-append_cases}
 use Rattle.std.proofs.lemmas.Map.Keys.{sorted_tail}
 use Rattle.std.proofs.lemmas.Map.Views.{All-after_first}
 use Rattle.dired_text.specs.Paths.{Names, AreNames, is_name, path_cmp, parent}
 use Rattle.dired_text.proofs.PathLemmas.{tied_itself, path_decides, parent-push}
-use Rattle.commit_steps.specs.declared.step.Step.{Step}
 use Rattle.commit_steps.specs.declared.step.Step.TheVariants.{MakeDir}
-use Rattle.commit_steps.specs.Staging.{staging, staging_name, staged, held, fresh_name}
+use Rattle.commit_steps.specs.Staging.{staging, staging_name, held, fresh_name}
 use Rattle.commit_steps.specs.Steps.{IsOutside}
 use Rattle.tree_core.specs.declared.node.Node.{Node}
 use Rattle.tree_core.specs.declared.node.Node.TheVariants.{Dir}
 use Rattle.tree_core.specs.declared.node.Change.TheVariants as call
-use Rattle.tree_core.specs.FileTree.{FileTree, IsTree, IsAbsent, IsDir, IsEmptyAt, IsMode, Stands, is_dir_node}
-use Rattle.tree_core.proofs.TreeLemmas.{tie, dir_stands, absent_not, last_of}
+use Rattle.tree_core.specs.FileTree.{FileTree, IsTree, IsAbsent, IsDir, Stands, is_dir_node}
+use Rattle.tree_core.proofs.TreeLemmas.{tie, dir_stands, absent_not}
 use Rattle.tree_core.proofs.Sound.{tree_kept, get-inserted, get-inserted_other}
 use Rattle.edit_words.specs.declared.row.Row.{Row}
-use Rattle.edit_words.specs.declared.row.Route.{Route}
-use Rattle.edit_words.specs.declared.row.Route.TheVariants.{Stays, Sent}
 use Rattle.edit_words.specs.Place.{routed, place, ancestors, IsAbove}
 use Rattle.edit_words.specs.Refusals.{missing_above}
 use Rattle.edit_words.specs.Rows.{written, is_elsewhere, is_same_path, last_name}
@@ -37,10 +34,10 @@ use Rattle.edit_words.specs.Sight.{sight_of}
 use Rattle.edit_words.specs.Edited.{Entries, Came, IsPlaced, is_fresh, missing}
 use Rattle.edit_words.proofs.SameLemmas.{same_path, same_itself}
 use Rattle.edit_words.proofs.RefusalLemmas.{is_some-seen}
-use Rattle.edit_laws.proofs.ListLemmas.{any_parts, any_from, contains_head, contains_tail, contains_none, contains_cases, contains_filter, filter_parts, contains_flat, flat_parts, map_parts}
+use Rattle.edit_laws.proofs.ListLemmas.{any_parts, any_from, contains_head, contains_none, contains_cases, contains_filter, filter_parts, contains_flat, flat_parts, map_parts}
 use Rattle.edit_laws.proofs.PlaceLemmas.{by_last, place-push}
 use Rattle.edit_laws.proofs.PlacedIsTree.{some_of}
-use Rattle.edit_laws.proofs.PlacedLemmas.{find-append_some, find-append_none, tie_itself}
+use Rattle.edit_laws.proofs.PlacedLemmas.{find-append_some, find-append_none}
 use Rattle.edit_laws.proofs.RowLemmas.{far_to, front_last, written-to}
 use Rattle.edit_laws.proofs.AddedLemmas.{missing_parts, missing_there, zip_pair}
 use Rattle.edit_rules.specs.Plans.{AreMissing}
@@ -54,10 +51,10 @@ use Rattle.plan_laws.proofs.MovesLead.{outside_path}
 use Rattle.plan_laws.proofs.Places.{all_aside}
 use Rattle.plan_laws.proofs.Setting.{ArePlannedRows}
 use Rattle.plan_laws.proofs.SoFarApart.{not_staged, not_reserved}
-use Rattle.plan_laws.proofs.WellLemmas.{FreshSpot, fresh_spot}
+use Rattle.plan_laws.proofs.WellLemmas.{fresh_spot}
 use Rattle.step_trees.specs.Entries.{IsTemporary, IsHeld, IsFresh}
 use Rattle.step_trees.specs.Leads.{HoldsEntries}
-use Rattle.step_trees.specs.Steps.{step_done, after, IsBefore}
+use Rattle.step_trees.specs.Steps.{after, IsBefore}
 use Rattle.plan_ends.specs.Runs.{IsRun}
 use Rattle.plan_ends.proofs.EntriesKept.{outside_front}
 

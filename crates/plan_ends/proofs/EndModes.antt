@@ -1,5 +1,5 @@
 -- The mode steps lead from the end of the moves to the edited tree.
-use Rattle.std.proofs.Common.{◌≡◌, ◌≢◌, ◌⊎◌, inl, inr, ⊎_elim, ℕ, ◌+◌, ◌<◌, ◌≤◌, ◌==◌, ◌&&◌, Bool, true, false, cond, not, List, [], ◌∷◌, ◌++◌, map, filter, length, refl, sym, ◌∙◌, ap, subst, arith, Option, Some, None, is_some, IsTrue, eqb-true, eq-eqb}
+use Rattle.std.proofs.Common.{◌≡◌, ◌≢◌, ◌⊎◌, inl, inr, ℕ, ◌&&◌, Bool, true, false, not, List, [], ◌∷◌, map, refl, sym, ◌∙◌, ap, subst, Option, Some, None, is_some, IsTrue, eqb-true, eq-eqb}
 use Rattle.std.specs.Prelude.{Contains, unwrap_or}
 use Rattle.std.specs.FinMap.{get, find}
 use Rattle.std.specs.Option.{option_map}
@@ -7,7 +7,7 @@ use Rattle.std.proofs.lemmas.Bool.{cases_Bool, and_parts, and_from, false_from_n
 use Rattle.std.proofs.lemmas.Option.{none-some, same_Some}
 use Rattle.std.proofs.lemmas.List.Elements.{All-contains}
 use Rattle.dired_text.specs.Paths.{Names, path_cmp, rest_below}
-use Rattle.commit_steps.specs.Staging.{staging, staging_name, staged, held}
+use Rattle.commit_steps.specs.Staging.{staging, staged}
 use Rattle.commit_steps.specs.Steps.{IsOutside}
 use Rattle.tree_core.specs.declared.node.Node.{Node}
 use Rattle.tree_core.specs.declared.node.Node.TheVariants.{Dir, Link, File}
@@ -16,12 +16,12 @@ use Rattle.tree_core.specs.declared.edit.Edit.{Edit}
 use Rattle.tree_core.specs.declared.edit.Shown.{Shown}
 use Rattle.tree_core.specs.declared.changes.Changes.{Changes}
 use Rattle.tree_core.specs.declared.changes.Changes.TheVariants.{Edits, Removals, Creations}
-use Rattle.tree_core.specs.FileTree.{FileTree, IsTree, IsMode, IsFile, Stands, IsEmptyAt, has_mode_node, mode_of}
+use Rattle.tree_core.specs.FileTree.{FileTree, IsTree, IsMode, IsFile, has_mode_node, mode_of}
 use Rattle.tree_core.proofs.TreeLemmas.{dir_stands}
 use Rattle.edit_words.specs.declared.row.Row.{Row}
 use Rattle.edit_words.specs.Place.{place}
 use Rattle.edit_words.specs.Refusals.{are_same}
-use Rattle.edit_words.specs.Rows.{rows, edit_row, removal_row, creation_row, row_from, route_of, is_kept, is_victim, is_removed, is_source, is_written, is_at, is_same_path}
+use Rattle.edit_words.specs.Rows.{rows, edit_row, removal_row, creation_row, route_of, is_kept, is_written, is_at, is_same_path}
 use Rattle.edit_words.specs.Sight.{sight_of, seen, number_of, number_at}
 use Rattle.edit_words.specs.Edited.{Came, IsPlaced, AreMadeFor, added_by, fresh_places, edited, with_new_mode, mode_named, node_number, is_number}
 use Rattle.edit_words.specs.WellFormed.{IsEdit, ShowsNode, HasNumber, CanBeAsked}
@@ -31,7 +31,7 @@ use Rattle.edit_laws.proofs.ListLemmas.{map_parts, any_none, contains_head, cont
 use Rattle.edit_laws.proofs.PlaceLemmas.{place-apart}
 use Rattle.edit_laws.proofs.PlacedIsTree.{Stayed, some_of}
 use Rattle.edit_laws.proofs.PlacedLemmas.{determined}
-use Rattle.edit_laws.proofs.RowLemmas.{row_there, row_from-some, is_at-true, kept_from, rows_apart, root_kept}
+use Rattle.edit_laws.proofs.RowLemmas.{row_there, is_at-true, kept_from, rows_apart, root_kept}
 use Rattle.edit_laws.proofs.AddedLemmas.{Added, is_made, is_missing, added_as, zip_pair, nothing_added}
 use Rattle.edit_laws.proofs.AskedLemmas.{AreMadeRows, made_are, no_link}
 use Rattle.edit_laws.proofs.EditedLemmas.{edited-IsEdited}
@@ -44,9 +44,9 @@ use Rattle.plan_laws.specs.Laws.{ArePlanned}
 use Rattle.plan_laws.proofs.Setting.{ArePlannedRows, planned_rows}
 use Rattle.plan_laws.proofs.SoFarApart.{source_not_root}
 use Rattle.plan_laws.proofs.StagedNames.{held_no_temporary, held_no_fresh}
-use Rattle.step_trees.specs.Entries.{rest, IsTemporary, IsHeld, IsFresh, HoldsOnly}
+use Rattle.step_trees.specs.Entries.{rest, IsTemporary, IsHeld, IsFresh}
 use Rattle.step_trees.specs.Leads.{HoldsEntries, Ends, SetOthers}
-use Rattle.step_trees.specs.Steps.{after, HasModeOf}
+use Rattle.step_trees.specs.Steps.{after}
 use Rattle.step_trees.proofs.Without.{get-without_in, get-without_out, without-stood}
 use Rattle.plan_ends.specs.Laws.{IsMoved}
 use Rattle.plan_ends.specs.Runs.{IsRun}
@@ -325,21 +325,23 @@ module _ (t : FileTree) (changes : Changes) (made : List Node) (planned : ArePla
               by_source (Some s') e =
                   let was = shown_of o listed_o new is_new in
                   let a = moded o s' was.0 new listed_o e was.1 is_new in
-                  let number_is' : node_number (get t s') ≡ Some n = sym (seen_number (get t s')) ∙ sym (ap (number_at (sight_of t)) e) ∙ number in
-                  ((place (route_of (rows changes)) s', was.0.mode, new),
+                  let number_is' : node_number (get t s') ≡ Some n = sym (seen_number (get t s')) ∙ sym (ap (number_at (sight_of t)) e) ∙ number in (
+                    (place (route_of (rows changes)) s', was.0.mode, new),
                     listed_change o (place (route_of (rows changes)) s', was.0.mode, new) listed_o
                         (change_of (sight_of t) (rows changes) o s' was.0 new e was.1 is_new (ap (names_place (sight_of t) (rows changes) o) number ∙ names)),
-                    ap (λ (x : Option Node). is_number n (node_number x)) (found_now s' a.node a.stayed.kept a.stood a.none ∙ sym a.stood) ∙ ap (is_number n) number_is' ∙ eq-eqb n n refl)
+                    ap (λ (x : Option Node). is_number n (node_number x)) (found_now s' a.node a.stayed.kept a.stood a.none ∙ sym a.stood) ∙ ap (is_number n) number_is' ∙ eq-eqb n n refl,
+                  )
 
       by_node : (node : Node) → get t p ≡ Some node → (r.source ≡ Some p) ⊎ ((number : ℕ) × HasNumber t r number × (node_number (Some node) ≡ Some number))
           → (m : ModeChange) × Contains ms m × (meets m.0 (get now m.0) (place (route_of (rows changes)) p) node ≡ true)
       by_node (Dir k) at (inl source) =
           let new = some_of r.mode some in
           let was = shown_of r listed new.0 new.1 in
-          let number : number_at (sight_of t) r.source ≡ None = ap (number_at (sight_of t)) source ∙ seen_number (get t p) ∙ ap node_number at in
-          ((place (route_of (rows changes)) p, was.0.mode, new.0),
+          let number : number_at (sight_of t) r.source ≡ None = ap (number_at (sight_of t)) source ∙ seen_number (get t p) ∙ ap node_number at in (
+            (place (route_of (rows changes)) p, was.0.mode, new.0),
             listed_change r (place (route_of (rows changes)) p, was.0.mode, new.0) listed (change_of (sight_of t) (rows changes) r p was.0 new.0 source was.1 new.1 (ap (names_place (sight_of t) (rows changes) r) number)),
-            same_itself (place (route_of (rows changes)) p))
+            same_itself (place (route_of (rows changes)) p),
+          )
       by_node (Dir k) at (inr (number, has, is)) = absurd (none-some number is)
       by_node (Link target) at (inl source) = let new = some_of r.mode some in absurd (no_link t changes planned.asked planned.well_formed r p new.0 target listed source new.1 at)
       by_node (Link target) at (inr (number, has, is)) = absurd (none-some number is)

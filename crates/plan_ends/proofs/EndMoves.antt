@@ -1,29 +1,28 @@
 -- At the end of the moves all is at its new place, and the staging directory holds only what is put aside.
-use Rattle.std.proofs.Common.{◌≡◌, ◌≢◌, ◌⊎◌, inl, inr, ℕ, ◌<◌, ◌≤◌, ◌^◌, ◌+◌, Bool, true, false, cond, not, ◌&&◌, ◌||◌, List, [], ◌∷◌, ◌++◌, map, filter, length, refl, sym, ◌∙◌, ap, subst, arith, append_assoc, Option, Some, None, is_some, IsTrue}
+use Rattle.std.proofs.Common.{◌≡◌, ◌≢◌, ◌⊎◌, inl, inr, ℕ, ◌<◌, ◌≤◌, ◌^◌, ◌+◌, Bool, true, false, not, ◌&&◌, List, [], ◌∷◌, ◌++◌, filter, length, refl, sym, ◌∙◌, ap, subst, arith, Option, Some, None, is_some, IsTrue}
 use Rattle.std.specs.Prelude.{Contains}
-use Rattle.std.specs.List.{zip}
 use Rattle.std.specs.FinMap.{get, find}
-use Rattle.std.proofs.lemmas.Bool.{cond-true, cond-false, cases_Bool, and_from, or_cases, or_left, or_right, not-true}
+use Rattle.std.proofs.lemmas.Bool.{cond-false, and_from, or_cases, or_left, or_right, not-true}
 use Rattle.std.proofs.lemmas.Option.{none-some}
 use Rattle.std.proofs.lemmas.List.{append-nil}
 use Rattle.dired_text.specs.Paths.{Names, path_cmp, rest_below}
-use Rattle.dired_text.proofs.PathLemmas.{rest_below-append, rest_below-some}
-use Rattle.commit_steps.specs.Staging.{staging, staging_name, staged, held}
+use Rattle.dired_text.proofs.PathLemmas.{rest_below-append}
+use Rattle.commit_steps.specs.Staging.{staging, staged, held}
 use Rattle.tree_core.specs.declared.node.Node.{Node}
 use Rattle.tree_core.specs.declared.node.Node.TheVariants.{Dir}
-use Rattle.tree_core.specs.FileTree.{FileTree, Stands, IsEmptyAt}
+use Rattle.tree_core.specs.FileTree.{FileTree, Stands}
 use Rattle.tree_core.proofs.TreeLemmas.{tie, tie-other}
 use Rattle.edit_words.specs.declared.row.Row.{Row}
 use Rattle.edit_words.specs.Place.{place}
-use Rattle.edit_words.specs.Rows.{route_of, is_source, is_victim, is_removed, is_kept, is_written, is_at}
+use Rattle.edit_words.specs.Rows.{route_of, is_victim, is_removed, is_kept, is_at}
 use Rattle.edit_words.specs.Edited.{Entries, IsPlaced, Came, is_fresh, fresh_places, fresh_place_of, added_by}
 use Rattle.edit_words.specs.Sight.{sight_of}
 use Rattle.edit_laws.proofs.ListLemmas.{any_from, contains_filter, contains_map, zip_left}
 use Rattle.edit_laws.proofs.RowLemmas.{is_at-same, is_written-from}
 use Rattle.edit_laws.proofs.AddedLemmas.{made_found}
 use Rattle.plan_moves.specs.Moves.{Spots}
-use Rattle.plan_moves.specs.Plan.{held_paths, is_given_up}
-use Rattle.plan_moves.specs.SoFar.{held_at, route_so_far, added_so_far, IsSoFar, same_node}
+use Rattle.plan_moves.specs.Plan.{held_paths}
+use Rattle.plan_moves.specs.SoFar.{held_at, route_so_far, IsSoFar, same_node}
 use Rattle.plan_laws.proofs.Held.{HeldAs, victim, given, HeldAt, held_is, held_number, few_held}
 use Rattle.plan_laws.proofs.Setting.{ArePlannedRows}
 use Rattle.plan_laws.proofs.StagedNames.{staged_name}
@@ -58,7 +57,7 @@ module _ (t : FileTree) (rs : List Row) (set : ArePlannedRows t rs) (made : List
       by_as (given r listed up source) = elim (or_cases r.retargets _ up) [
         | inl link ↦
             let here : Contains (fresh_places rs) (place (route_of rs) p) = subst (Contains (fresh_places rs)) (ap (λ (x : Option Names). fresh_place_of (place (route_of rs)) x r) source)
-                (contains_map (λ (x : Row). fresh_place_of (place (route_of rs)) x.source x) (filter is_fresh rs) r (contains_filter is_fresh rs r listed (or_left _ (not (is_some r.source)) link))) in
+            (contains_map (λ (x : Row). fresh_place_of (place (route_of rs)) x.source x) (filter is_fresh rs) r (contains_filter is_fresh rs r listed (or_left _ (not (is_some r.source)) link))) in
             let there = zip_left _ (fresh_places rs) made (place (route_of rs) p) (made_found t rs made set.tree set.fine set.are set.rise long) here in
             none-some there.0 (sym none ∙ there.2)
         | inr removes ↦

@@ -1,23 +1,22 @@
 -- Where the paths are at the end of the moves, when no change waits.
-use Rattle.std.proofs.Common.{◌≡◌, ◌≢◌, ◌⊎◌, inl, inr, ℕ, ◌<◌, ◌≤◌, ◌^◌, ◌+◌, Bool, true, false, cond, not, ◌&&◌, ◌||◌, List, [], ◌∷◌, ◌++◌, map, filter, length, refl, sym, ◌∙◌, ap, subst, arith, append_assoc, Option, Some, None, is_some, IsTrue}
+use Rattle.std.proofs.Common.{◌≡◌, ℕ, Bool, true, false, ◌&&◌, ◌||◌, List, [], ◌∷◌, ◌++◌, map, filter, refl, sym, ◌∙◌, ap, subst, append_assoc, Option, Some, None}
 use Rattle.std.specs.Prelude.{Contains}
 use Rattle.std.specs.List.{zip}
-use Rattle.std.specs.FinMap.{get, find}
-use Rattle.std.proofs.lemmas.Bool.{cond-true, cond-false, cases_Bool, and_parts, and_from, or_from, or_cases, not-true, not_from_false, false_from_ne_true}
-use Rattle.std.proofs.lemmas.Option.{none-some, same_Some}
-use Rattle.std.proofs.lemmas.List.{append-nil, same_from_push}
-use Rattle.dired_text.specs.Paths.{Names, path_cmp, parent, rest_below}
-use Rattle.commit_steps.specs.Staging.{staging, staging_name, staged, held}
+use Rattle.std.specs.FinMap.{find}
+use Rattle.std.proofs.lemmas.Bool.{and_parts, or_from, not_from_false, false_from_ne_true}
+use Rattle.std.proofs.lemmas.Option.{none-some}
+use Rattle.std.proofs.lemmas.List.{same_from_push}
+use Rattle.dired_text.specs.Paths.{Names, path_cmp, parent}
+use Rattle.commit_steps.specs.Staging.{staging, staging_name}
 use Rattle.tree_core.specs.declared.node.Node.{Node}
 use Rattle.tree_core.specs.declared.node.Node.TheVariants.{Dir}
-use Rattle.tree_core.specs.FileTree.{FileTree, IsDir, Stands}
+use Rattle.tree_core.specs.FileTree.{FileTree, Stands}
 use Rattle.tree_core.proofs.TreeLemmas.{dir_stands}
 use Rattle.edit_words.specs.declared.row.Row.{Row}
 use Rattle.edit_words.specs.declared.row.Route.{Route}
-use Rattle.edit_words.specs.declared.row.Route.TheVariants.{Stays, Named, Sent}
-use Rattle.edit_words.specs.Place.{routed, place, IsAbove}
-use Rattle.edit_words.specs.Rows.{row_from, route_to, route_by, route_of, is_source, is_victim, is_removed, is_written, is_kept, is_at, is_elsewhere, written, last_name}
-use Rattle.edit_words.specs.Edited.{Entries, is_fresh, missing, fresh_places, fresh_place_of, added_by}
+use Rattle.edit_words.specs.Place.{routed, place}
+use Rattle.edit_words.specs.Rows.{row_from, route_to, route_by, route_of, is_kept, is_at, is_elsewhere, written, last_name}
+use Rattle.edit_words.specs.Edited.{is_fresh, missing, fresh_place_of, added_by}
 use Rattle.edit_words.specs.Sight.{sight_of}
 use Rattle.edit_laws.proofs.ListLemmas.{any_parts, contains_head, contains_tail, filter_parts}
 use Rattle.edit_laws.proofs.PlaceLemmas.{by_last, place-push, place-apart, View, sent, near, view, routed-sent}
@@ -26,8 +25,8 @@ use Rattle.edit_laws.proofs.RowLemmas.{row_from-some, row_there, is_at-true, row
 use Rattle.edit_laws.proofs.AddedLemmas.{missing_parts, IsMadeAt, retargeted, created, Added, is_made, is_missing, added_as, fresh_found}
 use Rattle.plan_moves.specs.Moves.{Spots}
 use Rattle.plan_moves.specs.Plan.{held_paths, is_given_up}
-use Rattle.plan_moves.specs.SoFar.{held_at, route_so_far_by, route_so_far, fresh_there, fresh_so_far, added_so_far}
-use Rattle.plan_laws.proofs.Held.{HeldAs, held_is, held_number, victim_held, given_held, full_not_held}
+use Rattle.plan_moves.specs.SoFar.{held_at, route_so_far_by, route_so_far, fresh_there, added_so_far}
+use Rattle.plan_laws.proofs.Held.{victim_held, given_held, full_not_held}
 use Rattle.plan_laws.proofs.Setting.{ArePlannedRows}
 use Rattle.plan_laws.proofs.SoFarApart.{not_staged, not_reserved, to_not_root, source_not_root}
 use Rattle.plan_laws.proofs.Places.{all_aside}

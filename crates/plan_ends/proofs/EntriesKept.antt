@@ -1,22 +1,21 @@
 -- A rename keeps what may stand in the staging directory.
-use Rattle.std.proofs.Common.{◌≡◌, ◌≢◌, Bool, true, false, ◌⊎◌, inl, inr, ⊎_elim, ℕ, ◌+◌, ◌<◌, ◌^◌, List, [], ◌∷◌, ◌++◌, length, refl, sym, ◌∙◌, ap, subst, arith, append_assoc, Option, Some, None, is_some, IsTrue}
+use Rattle.std.proofs.Common.{◌≡◌, ◌≢◌, true, false, ◌⊎◌, inl, inr, ⊎_elim, ℕ, ◌<◌, ◌^◌, List, [], ◌∷◌, ◌++◌, refl, sym, ◌∙◌, ap, subst, Option, Some, None}
 use Rattle.std.specs.FinMap.{get}
 use Rattle.std.proofs.lemmas.Slice.Eq.{bytes_eq-Decides}
 use Rattle.std.specs.Str.{bytes_eq}
 use Rattle.std.proofs.lemmas.Bool.{cases_Bool}
 use Rattle.std.proofs.lemmas.Option.{none-some}
-use Rattle.std.proofs.lemmas.List.{append-nil}
 use Rattle.dired_text.specs.Paths.{Names, rest_below}
 use Rattle.dired_text.proofs.PathLemmas.{rest_below-some, append_cancel}
 use Rattle.commit_steps.specs.Staging.{staging, staging_name, staged, held}
-use Rattle.commit_steps.specs.Steps.{IsOutside, IsStepPath, IsEntryPath}
+use Rattle.commit_steps.specs.Steps.{IsOutside, IsStepPath}
 use Rattle.tree_core.specs.declared.node.Node.{Node}
 use Rattle.tree_core.specs.declared.node.Change.TheVariants.{Rename}
-use Rattle.tree_core.specs.FileTree.{FileTree, IsTree, IsAbsent, IsDir, IsEmptyAt, CanRename, moved, moved_rest, renamed, is_dir_node}
+use Rattle.tree_core.specs.FileTree.{FileTree, IsEmptyAt, CanRename, moved, renamed, is_dir_node}
 use Rattle.tree_core.proofs.TreeLemmas.{absent_below, dir_stands}
 use Rattle.tree_core.proofs.Sound.{tree_kept}
 use Rattle.plan_laws.proofs.Renamed.{moved-by, get-moved, came_moved}
-use Rattle.step_trees.specs.Entries.{IsFileOrLink, IsTemporary, IsHeld, IsFresh}
+use Rattle.step_trees.specs.Entries.{IsTemporary, IsHeld, IsFresh}
 use Rattle.step_trees.specs.Leads.{HoldsEntries}
 use Rattle.step_trees.proofs.NameLemmas.{none_below}
 

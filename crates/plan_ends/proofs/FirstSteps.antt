@@ -1,11 +1,10 @@
 -- What is put aside, and the directories that are made: the first steps of a plan.
-use Rattle.std.proofs.Common.{◌≡◌, ◌≢◌, ◌⊎◌, inl, inr, ℕ, ◌+◌, ◌≤◌, ◌<◌, ◌^◌, true, List, [], ◌∷◌, ◌++◌, map, length, refl, sym, ◌∙◌, ap, subst, arith, append_assoc, Option, Some, None, is_some, IsTrue}
+use Rattle.std.proofs.Common.{◌≡◌, ◌⊎◌, inl, inr, ℕ, ◌+◌, ◌≤◌, ◌<◌, ◌^◌, true, List, [], ◌∷◌, ◌++◌, map, length, refl, sym, ◌∙◌, ap, subst, arith, Option, Some, None, is_some, IsTrue}
 use Rattle.std.specs.Prelude.{Contains}
 use Rattle.std.specs.FinMap.{get, find}
 use Rattle.std.proofs.lemmas.Option.{none-some}
 use Rattle.std.proofs.lemmas.List.{append-nil}
 use Rattle.dired_text.specs.Paths.{Names, path_cmp}
-use Rattle.commit_steps.specs.declared.step.Step.{Step}
 use Rattle.commit_steps.specs.declared.step.Step.TheVariants.{MakeDir}
 use Rattle.commit_steps.specs.Staging.{staging, staged, held}
 use Rattle.commit_steps.specs.Steps.{IsOutside}
@@ -14,14 +13,14 @@ use Rattle.tree_core.specs.FileTree.{FileTree, IsEmptyAt, IsAbsent, renamed}
 use Rattle.edit_words.specs.declared.row.Row.{Row}
 use Rattle.edit_words.specs.Place.{place}
 use Rattle.edit_words.specs.Sight.{sight_of}
-use Rattle.edit_words.specs.Edited.{Entries, Came, IsPlaced, missing}
+use Rattle.edit_words.specs.Edited.{Entries, IsPlaced, missing}
 use Rattle.edit_laws.proofs.ListLemmas.{contains_head, contains_tail, contains_none}
 use Rattle.edit_laws.proofs.PlaceLemmas.{place-stays}
 use Rattle.edit_laws.proofs.PlacedIsTree.{some_of}
 use Rattle.edit_rules.specs.Plans.{AreMissing}
 use Rattle.plan_moves.specs.Moves.{fresh_spots}
 use Rattle.plan_moves.specs.Plan.{held_paths, holds}
-use Rattle.plan_moves.specs.SoFar.{held_at, IsSoFar, same_node}
+use Rattle.plan_moves.specs.SoFar.{IsSoFar, same_node}
 use Rattle.plan_moves.specs.Waiting.{waiting}
 use Rattle.plan_laws.specs.Laws.{HaveNames, LeadOn, IsPutAside, aside_route, made_at_first}
 use Rattle.plan_laws.proofs.AddedSoFar.{as_dir}
@@ -37,7 +36,7 @@ use Rattle.step_trees.specs.Steps.{after}
 use Rattle.plan_ends.specs.Laws.{AreFirstSteps, StartsWell, first_steps}
 use Rattle.plan_ends.specs.Runs.{IsRun}
 use Rattle.plan_ends.proofs.Dirs.{found_as, dirs_run, same_dirs}
-use Rattle.plan_ends.proofs.EntriesKept.{LeadsTo, aside, entries_renamed, still, outside_front}
+use Rattle.plan_ends.proofs.EntriesKept.{aside, entries_renamed, still, outside_front}
 use Rattle.plan_ends.proofs.RunLemmas.{after-append, run-append, run_ends}
 
 -- nothing stands below these paths, which are outside of the staging directory

@@ -1,27 +1,26 @@
 -- The modes that change: what each is, and that no two are of one place or of one file.
-use Rattle.std.proofs.Common.{◌≡◌, ◌≢◌, ◌⊎◌, inl, inr, ℕ, suc, ◌+◌, ◌<◌, ◌≤◌, ◌==◌, ◌&&◌, Bool, true, false, cond, List, [], ◌∷◌, filter, length, get_or, refl, sym, ◌∙◌, ap, subst, arith, Option, Some, None, is_some, IsTrue, eqb-true, eq-eqb}
+use Rattle.std.proofs.Common.{◌≡◌, ◌⊎◌, inl, inr, ℕ, suc, ◌<◌, ◌≤◌, ◌==◌, ◌&&◌, Bool, true, false, cond, List, [], ◌∷◌, filter, length, get_or, refl, sym, ◌∙◌, ap, subst, arith, Option, Some, None, eqb-true, eq-eqb}
 use Rattle.std.specs.Prelude.{Contains}
-use Rattle.std.specs.List.{filter_map, cons_option, count_by, find}
+use Rattle.std.specs.List.{filter_map, cons_option, count_by}
 use Rattle.std.specs.Option.{option_map}
 use Rattle.std.specs.FinMap.{get}
 use Rattle.std.proofs.lemmas.Bool.{cond-true, cond-false, cases_Bool, and_parts, and_from}
 use Rattle.std.proofs.lemmas.Option.{none-some, same_Some}
 use Rattle.std.proofs.lemmas.List.Sums.{length-filter}
 use Rattle.dired_text.specs.Paths.{Names}
-use Rattle.tree_core.specs.declared.node.Node.{Node}
 use Rattle.tree_core.specs.declared.edit.Shown.{Shown}
 use Rattle.tree_core.specs.FileTree.{FileTree}
 use Rattle.edit_words.specs.declared.row.Row.{Row}
 use Rattle.edit_words.specs.Place.{place}
 use Rattle.edit_words.specs.Rows.{is_same_path, line_where, route_of}
 use Rattle.edit_words.specs.Edited.{node_number, is_number}
-use Rattle.edit_words.specs.Sight.{Sight, sight_of, number_at}
+use Rattle.edit_words.specs.Sight.{Sight, number_at}
 use Rattle.edit_words.specs.WellFormed.{LinesRise}
 use Rattle.edit_words.proofs.SameLemmas.{same_path, same_itself}
 use Rattle.edit_laws.proofs.ListLemmas.{contains_head, contains_tail, contains_none, contains_cases, contains_filter, filter_parts, find_parts, find_from}
 use Rattle.edit_rules.specs.Plans.{ModeChange, AreModes, names_place, is_line, mode_change_by, mode_change_of, mode_changes}
 use Rattle.edit_rules.specs.Tables.{names_mode}
-use Rattle.plan_ends.proofs.ModeSteps.{AreOther, AreOthers}
+use Rattle.plan_ends.proofs.ModeSteps.{AreOthers}
 
 -- ---- lists
 

@@ -1,26 +1,23 @@
 -- Mode steps in a tree, one by one: what stands behind them, and that each is before in turn.
-use Rattle.std.proofs.Common.{◌≡◌, ◌≢◌, ◌⊎◌, inl, inr, ⊎_elim, ℕ, ◌≤◌, ◌==◌, Bool, true, false, cond, List, [], ◌∷◌, ◌++◌, map, refl, sym, ◌∙◌, ap, subst, arith, Option, Some, None, is_some, IsTrue, if◌then◌else◌, eqb-true, eq-eqb}
+use Rattle.std.proofs.Common.{◌≡◌, ◌≢◌, ◌⊎◌, inl, inr, ⊎_elim, ℕ, ◌==◌, Bool, true, false, cond, List, [], ◌∷◌, ◌++◌, map, refl, sym, ◌∙◌, ap, subst, Option, Some, None, IsTrue, if◌then◌else◌, eqb-true}
 use Rattle.std.specs.Prelude.{Contains}
 use Rattle.std.specs.FinMap.{get, insert}
 use Rattle.std.specs.Option.{option_map}
 use Rattle.std.proofs.lemmas.Bool.{cond-true, cond-false, cases_Bool}
 use Rattle.std.proofs.lemmas.Option.{none-some, same_Some}
 use Rattle.dired_text.specs.Paths.{Names}
-use Rattle.commit_steps.specs.declared.step.Step.{Step}
-use Rattle.commit_steps.specs.declared.step.Step.TheVariants.{Mode}
 use Rattle.commit_steps.specs.Staging.{staging, staged}
 use Rattle.commit_steps.specs.Steps.{IsOutside}
 use Rattle.tree_core.specs.declared.node.Node.{Node}
 use Rattle.tree_core.specs.declared.node.Node.TheVariants.{Dir, Link, File}
 use Rattle.tree_core.specs.declared.node.Change.TheVariants.{SetMode}
-use Rattle.tree_core.specs.FileTree.{FileTree, IsTree, IsMode, IsDir, IsAbsent, IsEmptyAt, set_mode_of, with_file_mode, has_mode_node, is_dir_node, mode_of}
+use Rattle.tree_core.specs.FileTree.{FileTree, IsTree, IsMode, IsDir, set_mode_of, with_file_mode, has_mode_node, is_dir_node, mode_of}
 use Rattle.tree_core.proofs.TreeLemmas.{get-with_nodes}
 use Rattle.tree_core.proofs.Sound.{tree_kept, get-inserted, get-inserted_other}
 use Rattle.edit_words.specs.Rows.{is_same_path}
 use Rattle.edit_words.proofs.SameLemmas.{same_path, same_itself}
 use Rattle.edit_words.specs.Edited.{node_number, is_number}
 use Rattle.edit_laws.proofs.ListLemmas.{contains_head, contains_tail, contains_none, contains_cases}
-use Rattle.edit_laws.proofs.PlacedIsTree.{some_of}
 use Rattle.edit_rules.specs.Plans.{ModeChange}
 use Rattle.plan_moves.specs.Plan.{mode_step}
 use Rattle.step_trees.specs.Entries.{IsFileOrLink, IsTemporary, IsHeld, IsFresh}
@@ -211,7 +208,7 @@ pub record CanChange (u : FileTree) (m : ModeChange) : Type 0 where
   pub differ : m.1 ≢ m.2
 
 unmet_other : (t : FileTree) (m k : ModeChange) (node : Node) → AreOther t m k → node_number (get t k.0) ≡ node_number (Some node) → meets m.0 (get t m.0) k.0 node ≡ false
-unmet_other t m k (Dir l) other is = elim (cases_Bool (is_same_path m.0 k.0)) [ | inl same ↦ absurd (other.places (same_path m.0 k.0 same)) | inr no_way ↦ no_way ]
+unmet_other t m k (Dir l) other is = elim (cases_Bool (is_same_path m.0 k.0)) [ inl same ↦ absurd (other.places (same_path m.0 k.0 same)) | inr no_way ↦ no_way ]
 unmet_other t m k (Link target) other is = refl
 unmet_other t m k (File n b l) other is = by_number (node_number (get t m.0)) refl
   where

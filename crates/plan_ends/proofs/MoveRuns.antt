@@ -1,13 +1,11 @@
 -- The moves can be done one behind the other, and each tree on the way holds only entries.
-use Rattle.std.proofs.Common.{◌≡◌, ◌≢◌, ◌⊎◌, inl, inr, ℕ, ◌+◌, ◌==◌, Bool, true, false, cond, not, List, [], ◌∷◌, ◌++◌, map, filter, refl, sym, ◌∙◌, ap, subst, Option, Some, None}
+use Rattle.std.proofs.Common.{◌≡◌, ◌⊎◌, inl, inr, ℕ, ◌+◌, ◌==◌, Bool, true, false, cond, not, List, refl, sym, ◌∙◌, ap, subst, Option, Some, None}
 use Rattle.std.specs.Prelude.{Contains}
-use Rattle.std.proofs.lemmas.Bool.{cond-true, cond-false, cases_Bool}
 use Rattle.std.proofs.lemmas.Option.{none-some}
 use Rattle.dired_text.specs.Paths.{Names}
 use Rattle.commit_steps.specs.declared.step.Step.{Step}
-use Rattle.commit_steps.specs.declared.step.Step.TheVariants.{MakeDir, Rename, Mode}
-use Rattle.commit_steps.specs.Staging.{staging, staged, temporary, held, fresh_name}
-use Rattle.commit_steps.specs.Steps.{IsOutside, IsStepPath, IsLawfulStep}
+use Rattle.commit_steps.specs.Staging.{staged, temporary, held, fresh_name}
+use Rattle.commit_steps.specs.Steps.{IsOutside, IsStepPath}
 use Rattle.tree_core.specs.FileTree.{FileTree, renamed}
 use Rattle.edit_words.specs.declared.row.Row.{Row}
 use Rattle.edit_words.specs.Rows.{written}
@@ -15,7 +13,6 @@ use Rattle.edit_laws.proofs.ListLemmas.{filter_parts, map_parts}
 use Rattle.edit_laws.proofs.RowLemmas.{written-to, written-none}
 use Rattle.plan_moves.specs.Waiting.{Waiting, without, put_away}
 use Rattle.plan_moves.specs.Moves.{Moves, over, carry, knot, Spots, spot_of}
-use Rattle.plan_moves.proofs.Number.{deepest-contains}
 use Rattle.plan_laws.specs.Laws.{LeadOn}
 use Rattle.plan_laws.proofs.MovesLead.{outside_path}
 use Rattle.plan_laws.proofs.Setting.{ArePlannedRows}
@@ -25,7 +22,7 @@ use Rattle.step_trees.specs.Entries.{IsTemporary}
 use Rattle.step_trees.specs.Leads.{HoldsEntries}
 use Rattle.step_trees.specs.Steps.{after}
 use Rattle.plan_ends.specs.Runs.{IsRun}
-use Rattle.plan_ends.proofs.EntriesKept.{LeadsTo, out, to_temporary, entries_renamed}
+use Rattle.plan_ends.proofs.EntriesKept.{out, to_temporary, entries_renamed}
 
 module _ (t : FileTree) (rs : List Row) (set : ArePlannedRows t rs) where
   -- no path that a change writes is in the staging directory

@@ -1,5 +1,5 @@
 -- Steps that can be done one behind the other, joined.
-use Rattle.std.proofs.Common.{◌≡◌, List, [], ◌∷◌, ◌++◌, refl, sym, ◌∙◌, ap, subst}
+use Rattle.std.proofs.Common.{◌≡◌, List, [], ◌∷◌, ◌++◌, refl}
 use Rattle.tree_core.specs.FileTree.{FileTree}
 use Rattle.commit_steps.specs.declared.step.Step.{Step}
 use Rattle.step_trees.specs.Leads.{HoldsEntries, Ends, LeadsFrom}

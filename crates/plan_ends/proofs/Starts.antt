@@ -1,7 +1,7 @@
 -- The old tree with the entries that are made in its staging directory.
-use Rattle.std.proofs.Common.{◌≡◌, ◌≢◌, ◌⊎◌, inl, inr, ⊎_elim, ℕ, suc, ◌+◌, ◌≤◌, ◌<◌, ◌^◌, ◌==◌, Bool, true, false, cond, List, [], ◌∷◌, ◌++◌, map, filter, length, refl, sym, ◌∙◌, ap, subst, arith, append_assoc, Option, Some, None, is_some, IsTrue, eqb-true, eq-eqb}
+use Rattle.std.proofs.Common.{◌≡◌, ◌≢◌, ◌⊎◌, inl, inr, ℕ, ◌+◌, ◌≤◌, ◌<◌, ◌^◌, ◌==◌, true, false, cond, List, [], ◌∷◌, ◌++◌, map, filter, length, refl, sym, ◌∙◌, ap, subst, arith, Option, Some, None, is_some, IsTrue, eqb-true, eq-eqb}
 use Rattle.std.specs.Prelude.{Contains}
-use Rattle.std.specs.List.{zip, filter_map}
+use Rattle.std.specs.List.{zip}
 use Rattle.std.specs.Option.{option_map}
 use Rattle.std.specs.FinMap.{get, find, insert}
 use Rattle.std.proofs.lemmas.Bool.{cond-true, cond-false, cases_Bool, false_from_ne_true}
@@ -19,7 +19,7 @@ use Rattle.tree_core.specs.declared.changes.Creation.{Creation}
 use Rattle.tree_core.specs.declared.changes.Fresh.{Fresh}
 use Rattle.tree_core.specs.declared.changes.Fresh.TheVariants as asks
 use Rattle.tree_core.specs.declared.edit.Edit.{Edit}
-use Rattle.tree_core.specs.FileTree.{FileTree, IsTree, IsFile, IsDir, IsLawful, Stands, is_file_node, is_dir_node}
+use Rattle.tree_core.specs.FileTree.{FileTree, IsTree, IsFile, IsDir, IsLawful, is_file_node, is_dir_node}
 use Rattle.tree_core.proofs.TreeLemmas.{tie, tie-other, dir_stands}
 use Rattle.tree_core.proofs.Sound.{get-inserted, get-inserted_other}
 use Rattle.edit_words.specs.declared.row.Row.{Row}
@@ -28,14 +28,14 @@ use Rattle.edit_words.specs.Rows.{rows}
 use Rattle.edit_words.specs.Edited.{Entries, Came, IsPlaced, AreMadeFor, IsMadeFor, asked_fresh, is_fresh}
 use Rattle.edit_words.specs.WellFormed.{LinesRise, AreLawful, IsFreshIn}
 use Rattle.edit_words.proofs.FirstLemmas.{rise_rest, rise_first}
-use Rattle.edit_laws.proofs.ListLemmas.{contains_head, contains_tail, contains_none, contains_cases, filter_parts, map_parts, zip_right}
-use Rattle.edit_laws.proofs.PlaceLemmas.{place-stays, push_not_root}
+use Rattle.edit_laws.proofs.ListLemmas.{contains_none, contains_cases, filter_parts, map_parts, zip_right}
+use Rattle.edit_laws.proofs.PlaceLemmas.{place-stays}
 use Rattle.edit_laws.proofs.PlacedIsTree.{some_of}
 use Rattle.edit_laws.proofs.AddedLemmas.{zip_pair}
 use Rattle.edit_laws.proofs.AskedLemmas.{AreMadeRows, made_are}
 use Rattle.plan_moves.specs.Moves.{fresh_spots}
 use Rattle.plan_moves.specs.SoFar.{same_node}
-use Rattle.plan_laws.specs.Laws.{ArePlanned, IsPutAside, aside_route, made_at_first}
+use Rattle.plan_laws.specs.Laws.{ArePlanned, aside_route}
 use Rattle.plan_laws.proofs.Setting.{ArePlannedRows, planned_rows}
 use Rattle.plan_laws.proofs.SoFarApart.{not_staged}
 use Rattle.plan_laws.proofs.StagedNames.{fresh_apart, staged_name}
@@ -95,7 +95,6 @@ spots_named n (r ∷ rs) made rise long = go (λ k made long. spots_named k rs m
 -- ---- what stands there
 
 fresh_other : (n : ℕ) (xs : List Node) (u : FileTree) (q : Names) → find path_cmp q (zip (names_from n xs) xs) ≡ None → get (with_fresh n xs u) q ≡ get u q
-
 fresh_other n [] u q e = refl
 fresh_other n (x ∷ xs) u q e = go (λ none. fresh_other (n + 1) xs (insert u (staged (fresh_name n)) x) q none) (cases_Bool (tie q (staged (fresh_name n))))
   where
