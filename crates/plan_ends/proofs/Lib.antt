@@ -2,6 +2,7 @@ pub mod EndPlaces
 pub mod EndMoves
 pub mod RunLemmas
 pub mod ModeSteps
+pub mod GroupModes
 pub mod ModeCounts
 pub mod EndModes
 pub mod EntriesKept

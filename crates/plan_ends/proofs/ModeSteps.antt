@@ -154,7 +154,7 @@ module _ (u : FileTree) (m : ModeChange) where
       by_node None e = absurd (none-some node (sym (gone q e) ∙ at))
       by_node (Some before) e = (before, e, subst (IsLike before) (same_Some _ node (sym (there q before e) ∙ at)) (like_changed m.0 (get u m.0) m.2 q before))
 
-  numbers_kept : HasNumbersOf u (step_done (mode_step m) u)
+  pub numbers_kept : HasNumbersOf u (step_done (mode_step m) u)
   numbers_kept q = by_node (get u q) refl
     where
       by_node : (o : Option Node) → get u q ≡ o → node_number (get (step_done (mode_step m) u) q) ≡ node_number (get u q)
@@ -245,7 +245,7 @@ modes_run t (m ∷ ms) u numbers holds others can =
           others.1 (λ k c. still_can t u m k numbers (others.0 k c) (can k (contains_tail m k ms c))),
     )
 
-one_number : (o : Option Node) → number_of o ≡ node_number o
+pub one_number : (o : Option Node) → number_of o ≡ node_number o
 one_number None = refl
 one_number (Some (Dir m)) = refl
 one_number (Some (Link target)) = refl
