@@ -3,6 +3,7 @@ pub mod EndMoves
 pub mod RunLemmas
 pub mod ModeSteps
 pub mod GroupModes
+pub mod PlanLeads
 pub mod ModeCounts
 pub mod EndModes
 pub mod EntriesKept

@@ -19,7 +19,7 @@ use Rattle.plan_laws.proofs.MovesLead.{moves_lead}
 use Rattle.plan_laws.proofs.Setting.{planned_rows}
 use Rattle.plan_laws.proofs.WellLemmas.{well_at_first}
 use Rattle.step_trees.specs.Entries.{rest, IsHeld, HoldsOnly}
-use Rattle.step_trees.specs.Leads.{start, HoldsEntries, LeadsFrom}
+use Rattle.step_trees.specs.Leads.{start, HoldsEntries, Leads, LeadsFrom}
 use Rattle.step_trees.specs.Steps.{after}
 use Rattle.plan_ends.specs.Laws.{IsMoved, AreLastSteps, AreFirstSteps, AreAsMany, first_steps}
 use Rattle.plan_ends.specs.Runs.{IsRun}
@@ -28,6 +28,8 @@ use Rattle.plan_ends.proofs.EndModes.{mode_run_others, mode_ends}
 use Rattle.plan_ends.proofs.FirstSteps.{first_steps_lead}
 use Rattle.plan_ends.proofs.MoveRuns.{moves_run}
 use Rattle.plan_ends.proofs.Starts.{starts_well}
+use Rattle.plan_ends.proofs.GroupModes.{ChangesLast, none_before, modes_at_last}
+use Rattle.plan_ends.proofs.PlanLeads.{holds_change_none, dirs_change_none, moves_change_none, modes_all, groups_fine}
 use Rattle.plan_ends.proofs.RunLemmas.{after-append, run-append, run_ends, run_leads}
 
 pub moves_on : (t : FileTree) (changes : Changes) → ArePlanned t changes → HaveNames (rows changes) → (made : List Node) → AreAsMany (rows changes) made → (n : ℕ) (spots : Spots) (ws : List Waiting) (steps : List Step) (now : FileTree)
@@ -80,3 +82,17 @@ module _ (t : FileTree) (changes : Changes) (made : List Node) (planned : ArePla
             ≡ after (map mode_step plan.modes) (after plan.moves (after (first_steps t (rows changes) plan.dirs) (start t made)))
         there = after-append (first_steps t (rows changes) plan.dirs) (plan.moves ++ map mode_step plan.modes) (start t made)
             ∙ after-append plan.moves (map mode_step plan.modes) (after (first_steps t (rows changes) plan.dirs) (start t made))
+
+    all_last : ChangesLast (start t made) steps
+    all_last = subst (ChangesLast (start t made)) plan_is
+        (none_before (holds 0 (held_paths (sight_of t) (rows changes))) (map MakeDir plan.dirs ++ (plan.moves ++ map mode_step plan.modes)) (start t made) (holds_change_none 0 (held_paths (sight_of t) (rows changes)))
+        (none_before (map MakeDir plan.dirs) (plan.moves ++ map mode_step plan.modes) (after (holds 0 (held_paths (sight_of t) (rows changes))) (start t made)) (dirs_change_none plan.dirs)
+        (subst (λ (u : FileTree). ChangesLast u (plan.moves ++ map mode_step plan.modes)) (after-append (holds 0 (held_paths (sight_of t) (rows changes))) (map MakeDir plan.dirs) (start t made))
+        (none_before plan.moves (map mode_step plan.modes) (after (first_steps t (rows changes) plan.dirs) (start t made)) (moves_change_none _ _ _ plan.moves plan.moved)
+        (modes_at_last _ (map mode_step plan.modes) (modes_all plan.modes) last.others)))))
+      where
+        plan_is : holds 0 (held_paths (sight_of t) (rows changes)) ++ (map MakeDir plan.dirs ++ (plan.moves ++ map mode_step plan.modes)) ≡ steps
+        plan_is = sym plan.steps_are
+
+    pub plan_is_led : Leads steps t (edited t (rows changes) made) made
+    plan_is_led = record { from = plan_leads; others = groups_fine steps (start t made) (edited t (rows changes) made) plan_leads all_last }

@@ -18,7 +18,7 @@ use Rattle.plan_moves.specs.Plan.{IsPlan, held_paths, holds, mode_step}
 use Rattle.plan_moves.specs.SoFar.{Invariant, IsSoFar, same_node}
 use Rattle.plan_moves.specs.Waiting.{Waiting, waiting}
 use Rattle.step_trees.specs.Entries.{rest, IsHeld, HoldsOnly}
-use Rattle.step_trees.specs.Leads.{start, HoldsEntries, Ends, LeadsFrom, SetOthers}
+use Rattle.step_trees.specs.Leads.{start, HoldsEntries, Ends, Leads, SetOthers}
 use Rattle.step_trees.specs.Steps.{after}
 use Rattle.plan_ends.specs.Runs.{IsRun}
 
@@ -88,4 +88,4 @@ MovesRun =
 abbrev pub PlansLead : Type 0
 PlansLead =
     (t : FileTree) (changes : Changes) (made : List Node) (steps : List Step) → ArePlanned t changes → HaveNames (rows changes) → AreMadeFor t changes made
-    → IsPlan (sight_of t) (rows changes) steps → LeadsFrom (start t made) steps (edited t (rows changes) made)
+    → IsPlan (sight_of t) (rows changes) steps → Leads steps t (edited t (rows changes) made) made
