@@ -127,7 +127,7 @@ apart_paths p (Rename from to) ps e =
     ((apart_is p from (and_left (are_apart p from) (are_apart p to && list_all (are_apart p) ps) e), apart_is p to (and_left (are_apart p to) (list_all (are_apart p) ps) more)), and_right (are_apart p to) (list_all (are_apart p) ps) more)
 apart_paths p (Mode q old new) ps e = (apart_is p q (and_left (are_apart p q) (list_all (are_apart p) ps) e), and_right (are_apart p q) (list_all (are_apart p) ps) e)
 
-abbrev ApartFromAll : Step → List Step → Type 0
+abbrev pub ApartFromAll : Step → List Step → Type 0
 ApartFromAll s [] = Unit {0}
 ApartFromAll s (u ∷ g) = AreApart s u × ApartFromAll s g
 
@@ -143,7 +143,7 @@ two_apart from to [] e f = tt
 two_apart from to (u ∷ g) e f = let one = one_path from u g e in let two = one_path to u g f in ((one.0, two.0), two_apart from to g one.1 two.1)
 
 -- the first is apart from the others, and they are independent
-first_apart : (s : Step) (g : List Step) → Independent (s ∷ g) → ApartFromAll s g × Independent g
+pub first_apart : (s : Step) (g : List Step) → Independent (s ∷ g) → ApartFromAll s g × Independent g
 first_apart (MakeDir p) g e = (apart_from_each (MakeDir p) g p (λ u a. a) (and_left (list_all (are_apart p) (all_paths g)) (all_apart (all_paths g)) e), and_right (list_all (are_apart p) (all_paths g)) (all_apart (all_paths g)) e)
 first_apart (Rename from to) g e =
     let all = and_left (list_all (are_apart from) (to ∷ all_paths g)) (all_apart (to ∷ all_paths g)) e in

@@ -1,0 +1,14 @@
+pub mod EndPlaces
+pub mod EndMoves
+pub mod RunLemmas
+pub mod ModeSteps
+pub mod GroupModes
+pub mod PlanLeads
+pub mod ModeCounts
+pub mod EndModes
+pub mod EntriesKept
+pub mod MoveRuns
+pub mod Dirs
+pub mod FirstSteps
+pub mod Starts
+pub mod Parts
