@@ -1,3 +1,5 @@
 pub mod Net
 pub mod Tables
 pub mod RowLends
+pub mod Unlinked
+pub mod Values

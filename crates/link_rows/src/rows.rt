@@ -21,7 +21,7 @@ pub struct RowId(pub u32);
 /// does not grow with the number of rows, but for the time of an allocation.
 #[derive(Drop)]
 pub struct Rows<T> {
-    links: Links,
+    pub(crate) links: Links,
     values: Vec<T>,
 }
 
