@@ -1,0 +1,13 @@
+pub mod ListLemmas
+pub mod MovedLemmas
+pub mod RenameFacts
+pub mod CycleLemmas
+pub mod WalkLemmas
+pub mod StateLemmas
+pub mod KnotLemmas
+pub mod FlatLemmas
+pub mod CycleSums
+pub mod LeastLemmas
+pub mod PlanLemmas
+pub mod LawLemmas
+pub mod Examples
