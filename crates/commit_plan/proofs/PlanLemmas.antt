@@ -1,5 +1,5 @@
 -- What follows from a plan by what was found, in each tree that the check stands for.
-use Rattle.std.proofs.Common.{◌≡◌, ◌⊎◌, inl, inr, ℕ, ◌+◌, count_by, map, ◌++◌, All, List, get_or, length, sym, ◌∙◌, ap, subst, Option, Some, IfSome}
+use Rattle.std.proofs.Common.{◌≡◌, inl, inr, ℕ, ◌+◌, count_by, map, ◌++◌, All, List, get_or, length, sym, ◌∙◌, ap, subst, Option, Some, IfSome}
 use Rattle.std.specs.List.{flat_map}
 use Rattle.std.proofs.lemmas.Cmp.{eq_by_cmp_equiv}
 use Rattle.std.proofs.lemmas.List.Elements.{All-contains}
@@ -7,7 +7,7 @@ use Rattle.std.proofs.lemmas.Map.Keys.{IsDistinct-from_sorted}
 use Rattle.std.proofs.lemmas.Map.Made.{length-from_keys}
 use Rattle.dired_text.specs.Paths.{Names, AreNames, path_cmp}
 use Rattle.dired_text.proofs.PathLemmas.{path_cmp-total}
-use Rattle.tree_core.specs.FileTree.{FileTree, IsTree, IsFile}
+use Rattle.tree_core.specs.FileTree.{FileTree, IsFile}
 use Rattle.tree_core.specs.declared.changes.Fresh.{Fresh}
 use Rattle.tree_core.specs.declared.changes.Fresh.TheVariants as fresh
 use Rattle.tree_core.specs.declared.changes.Creation.{Creation}
@@ -20,7 +20,7 @@ use Rattle.edit_words.specs.Edited.{is_fresh}
 use Rattle.edit_words.specs.Refusals.{missing_above}
 use Rattle.edit_words.specs.Rows.{rows, is_same_path}
 use Rattle.edit_words.specs.Sight.{Sight, sight_of}
-use Rattle.edit_words.specs.WellFormed.{AreAsked, AreLawful, CanBeAsked, CanBeMade, IsFileFor, IsFreshIn, LinksHaveFiles}
+use Rattle.edit_words.specs.WellFormed.{AreAsked, AreLawful, CanBeAsked, IsFileFor, IsFreshIn, LinksHaveFiles}
 use Rattle.edit_rules.specs.Plans.{AreMissing, mode_changes, victims_of}
 use Rattle.edit_check.specs.declared.checked.Checked.{Checked}
 use Rattle.edit_check.specs.StandFor.{CanBeMadeWhereItStands, ListedWhereItStands, StandsFor, changes_in, found_in}

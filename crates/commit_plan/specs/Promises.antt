@@ -1,5 +1,5 @@
 -- What a plan of checked changes promises in each tree that the check stands for.
-use Rattle.std.specs.Prelude.{◌≡◌, ℕ, List, length, IfSome}
+use Rattle.std.specs.Prelude.{◌≡◌, List, length, IfSome}
 use Rattle.std.specs.List.{flat_map}
 use Rattle.std.specs.Set.{unique_keys}
 use Rattle.dired_text.specs.Paths.{Names, AreNames}

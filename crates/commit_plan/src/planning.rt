@@ -20,21 +20,25 @@ use edit_words::{Row, rows_of};
 use std::alloc::Global;
 
 /// The plan of checked changes: what is put aside, the directories that are made, the moves and the modes, in this order.
-/// In each tree that the check stands for, the steps lead to the edited tree, and their number is that of what there is to do.
-/// Where edits only give entries of one directory other names, and replace nothing, no list of renames does it with fewer.
+/// In each tree that the check stands for they lead to the edited tree, whatever entries are made for the changes, and their number
+/// is one of that tree and the changes: what is replaced, what is given up, the directories that are made, the edits with new paths,
+/// the entries that are made, the modes that change, and the knots. Where edits only give entries of one directory other names, and
+/// replace nothing, no list of renames that does the same is shorter.
 ///
 /// # Errors
 /// Want of memory.
 pub fn plan(alloc: Global, checked: &Checked) -> Result<Plan, Memory>
-    ensures plan { IfOk result (λ p. IsPlan (found_in checked.now) (rows_in (changes_in checked.now)) p.steps) }
+    ensures plan { IfOk result (λ p.
+        IsPlan (found_in checked.now) (rows_in (changes_in checked.now)) p.steps) }
     ensures leads { IfOk result (λ p. LeadToEdited checked.now p.steps) }
-    ensures counted { IfOk result (λ p. AreCounted checked.now p.steps) }
+    ensures count { IfOk result (λ p. AreCounted checked.now p.steps) }
     ensures least { IfOk result (λ p. AreLeast checked.now p.steps) }
     ensures fresh { IfOk result (λ p. p.fresh.items ≡ asked_fresh (changes_in checked.now)) }
 {
     let changes = checked.changes();
-    changes_can_be_made_where_it_stands(checked);
     let rows = rows_of(alloc, changes)?;
+    // The promises for each tree stand on these: the changes can be made there, and the names of all paths are lawful.
+    changes_can_be_made_where_it_stands(checked);
     read_names(&rows);
     let mut steps = Vec::new(alloc);
     let held = held_paths(alloc, &rows, checked.victims())?;
@@ -49,7 +53,7 @@ pub fn plan(alloc: Global, checked: &Checked) -> Result<Plan, Memory>
     })
 }
 
-// Reads the names of each path: that they are lawful is known of a path where they are read.
+// Reads the names of all paths. That names are lawful is known of a path where they are read.
 fn read_names(rows: &[Row])
     ensures { All HasNames rows.now }
 {

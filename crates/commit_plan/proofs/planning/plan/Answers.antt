@@ -59,8 +59,8 @@ returns-clause-leads c =
     let named : All HasNames c.in_ok-rows.rows.items = search rules in
     leads checked can.made can.listed asked c.from_vec.result (returns-clause-plan c) (have_names (rows (changes_in checked)) (subst (All HasNames) made named))
 
-pub returns-clause-counted : goal.returns-clause-counted
-returns-clause-counted c =
+pub returns-clause-count : goal.returns-clause-count
+returns-clause-count c =
     let checked = c.args.checked.now in
     let can = c.changes_can_be_made_where_it_stands.ensures in
     counted checked can.made can.listed (subst AreAsked c.changes-changes.ensures.changes c.changes-changes.ensures.asked) c.from_vec.result (returns-clause-plan c)
