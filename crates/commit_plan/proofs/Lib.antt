@@ -4,3 +4,4 @@ pub mod MovedLemmas
 pub mod FirstLemmas
 pub mod NameLemmas
 pub mod HoldLemmas
+pub mod PlanLemmas

@@ -1,11 +1,13 @@
 // The plan of checked changes.
-ghost use Rattle.std.specs.Prelude.{◌≡◌, ◌++◌, IfOk, OnOk, map};
+ghost use Rattle.std.specs.Prelude.{◌≡◌, ◌++◌, All, IfOk, IfSome, OnOk, map};
+ghost use Rattle.dired_text.specs.Paths.{AreNames};
 ghost use Rattle.edit_check.specs.StandFor.{changes_in, found_in};
 ghost use Rattle.edit_rules.specs.Plans.{ModeChange};
 ghost use Rattle.edit_words.specs.Edited.{asked_fresh};
 ghost use Rattle.edit_words.specs.Rows.{rows as rows_in};
 ghost use Rattle.commit_steps.specs.declared.step.Step.TheVariants.{MakeDir};
 ghost use Rattle.plan_moves.specs.Plan.{IsPlan, mode_step};
+ghost use Rattle.commit_plan.specs.Promises.{AreCounted, AreLeast, HasNames, LeadToEdited};
 
 use crate::fresh::asked;
 use crate::holds::{add_holds, held_paths};
@@ -13,20 +15,31 @@ use crate::moves::moves;
 use crate::planned::Plan;
 use commit_steps::{Step, Steps};
 use dired_text::{Memory, Path};
-use edit_check::Checked;
-use edit_words::rows_of;
+use edit_check::{Checked, changes_can_be_made_where_it_stands};
+use edit_words::{Row, rows_of};
 use std::alloc::Global;
 
 /// The plan of checked changes: what is put aside, the directories that are made, the moves and the modes, in this order.
+/// In each tree that the check stands for they lead to the edited tree, whatever entries are made for the changes, and their number
+/// is one of that tree and the changes: what is replaced, what is given up, the directories that are made, the edits with new paths,
+/// the entries that are made, the modes that change, and the knots. Where edits only give entries of one directory other names, and
+/// replace nothing, no list of renames that does the same is shorter.
 ///
 /// # Errors
 /// Want of memory.
 pub fn plan(alloc: Global, checked: &Checked) -> Result<Plan, Memory>
-    ensures plan { IfOk result (λ p. IsPlan (found_in checked.now) (rows_in (changes_in checked.now)) p.steps) }
+    ensures plan { IfOk result (λ p.
+        IsPlan (found_in checked.now) (rows_in (changes_in checked.now)) p.steps) }
+    ensures leads { IfOk result (λ p. LeadToEdited checked.now p.steps) }
+    ensures count { IfOk result (λ p. AreCounted checked.now p.steps) }
+    ensures least { IfOk result (λ p. AreLeast checked.now p.steps) }
     ensures fresh { IfOk result (λ p. p.fresh.items ≡ asked_fresh (changes_in checked.now)) }
 {
     let changes = checked.changes();
     let rows = rows_of(alloc, changes)?;
+    // The promises for each tree stand on these: the changes can be made there, and the names of all paths are lawful.
+    changes_can_be_made_where_it_stands(checked);
+    read_names(&rows);
     let mut steps = Vec::new(alloc);
     let held = held_paths(alloc, &rows, checked.victims())?;
     add_holds(alloc, &mut steps, held)?;
@@ -38,6 +51,24 @@ pub fn plan(alloc: Global, checked: &Checked) -> Result<Plan, Memory>
         steps: Steps::from_vec(steps),
         fresh,
     })
+}
+
+// Reads the names of all paths. That names are lawful is known of a path where they are read.
+fn read_names(rows: &[Row])
+    ensures { All HasNames rows.now }
+{
+    for row in rows {
+        read_path(&row.source);
+        read_path(&row.to);
+    }
+}
+
+fn read_path(path: &Option<Path>)
+    ensures { IfSome path.now AreNames }
+{
+    if let Some(path) = path {
+        let _names = path.names();
+    }
 }
 
 // Adds a step for each directory that has to be made.

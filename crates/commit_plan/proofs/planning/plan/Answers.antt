@@ -1,16 +1,18 @@
-use Rattle.std.proofs.Common.{◌≡◌, ◌≤◌, ◌++◌, [], List, map, length, ap, sym, subst, ◌∙◌, arith, rules}
+use Rattle.std.proofs.Common.{◌≡◌, ◌≤◌, ◌++◌, [], All, List, map, length, ap, sym, subst, ◌∙◌, arith, rules}
 use Rattle.dired_text.specs.Paths.{Names}
 use Rattle.commit_steps.specs.declared.step.Step.TheVariants.{MakeDir}
 use Rattle.edit_words.specs.declared.row.Row.{Row}
 use Rattle.edit_words.specs.Rows.{rows}
-use Rattle.edit_words.specs.WellFormed.{LinesRise}
+use Rattle.edit_words.specs.WellFormed.{AreAsked, LinesRise}
 use Rattle.edit_check.specs.StandFor.{changes_in, found_in}
 use Rattle.edit_rules.specs.Plans.{victims_of}
 use Rattle.plan_moves.specs.Moves.{Moves, fresh_spots}
 use Rattle.plan_moves.specs.Plan.{held_paths, holds, mode_step}
 use Rattle.plan_moves.specs.Waiting.{waiting}
 use Rattle.commit_plan.specs.Holding.{held_from}
+use Rattle.commit_plan.specs.Promises.{HasNames}
 use Rattle.commit_plan.proofs.HoldLemmas.{few_held, held_are, steps_are}
+use Rattle.commit_plan.proofs.PlanLemmas.{counted, have_names, leads, least}
 use Rattle.commit_plan.proofs.planning.plan.Goals as goal
 
 pub add_holds-requires : goal.add_holds-requires
@@ -47,3 +49,24 @@ returns-clause-plan c =
       steps_are = steps_are _ _ _ _ _ (holds 0 c.in_ok-held.held.items) (map MakeDir c.missing.result.now) c.in_ok-moves.field-0.items (map mode_step c.modes.result.now) none first second third fourth
           ∙ ap (λ (l : List Names). holds 0 l ++ (map MakeDir c.missing.result.now ++ (c.in_ok-moves.field-0.items ++ map mode_step c.modes.result.now))) all;
     }
+
+pub returns-clause-leads : goal.returns-clause-leads
+returns-clause-leads c =
+    let checked = c.args.checked.now in
+    let can = c.changes_can_be_made_where_it_stands.ensures in
+    let asked : AreAsked (changes_in checked) = subst AreAsked c.changes-changes.ensures.changes c.changes-changes.ensures.asked in
+    let made : c.in_ok-rows.rows.items ≡ rows (changes_in checked) = search rules in
+    let named : All HasNames c.in_ok-rows.rows.items = search rules in
+    leads checked can.made can.listed asked c.from_vec.result (returns-clause-plan c) (have_names (rows (changes_in checked)) (subst (All HasNames) made named))
+
+pub returns-clause-count : goal.returns-clause-count
+returns-clause-count c =
+    let checked = c.args.checked.now in
+    let can = c.changes_can_be_made_where_it_stands.ensures in
+    counted checked can.made can.listed (subst AreAsked c.changes-changes.ensures.changes c.changes-changes.ensures.asked) c.from_vec.result (returns-clause-plan c)
+
+pub returns-clause-least : goal.returns-clause-least
+returns-clause-least c =
+    let checked = c.args.checked.now in
+    let can = c.changes_can_be_made_where_it_stands.ensures in
+    least checked can.made can.listed (subst AreAsked c.changes-changes.ensures.changes c.changes-changes.ensures.asked) c.from_vec.result (returns-clause-plan c)
