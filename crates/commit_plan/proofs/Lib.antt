@@ -4,3 +4,11 @@ pub mod MovedLemmas
 pub mod FirstLemmas
 pub mod NameLemmas
 pub mod HoldLemmas
+pub mod PathOrder
+pub mod BlockLemmas
+pub mod KeeperLemmas
+pub mod TurnLemmas
+pub mod DeepLemmas
+pub mod RunLemmas
+pub mod ListLemmas
+pub mod WayLemmas
