@@ -12,3 +12,4 @@ pub mod DeepLemmas
 pub mod RunLemmas
 pub mod ListLemmas
 pub mod WayLemmas
+pub mod StartLemmas

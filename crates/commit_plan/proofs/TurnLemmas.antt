@@ -1,16 +1,18 @@
 -- Who has a turn, after one change was looked at or left its place.
-use Rattle.std.proofs.Common.{◌≡◌, ◌⊎◌, inl, inr, ℕ, ◌<◌, Bool, true, false, List, [], ◌∷◌, length, refl, sym, ◌∙◌, ap, subst, arith, Contains, Option, Some, None}
+use Rattle.std.proofs.Common.{◌≡◌, ◌⊎◌, inl, inr, ℕ, ◌<◌, Bool, true, false, List, [], ◌∷◌, ◌++◌, length, refl, sym, ◌∙◌, ap, subst, arith, Contains, Option, Some, None, Vec, Global}
 use Rattle.std.proofs.Math.ListN.{set}
 use Rattle.std.specs.List.{slice_get}
 use Rattle.std.proofs.lemmas.Option.{same_Some, slice_get_within}
+use Rattle.std.proofs.lemmas.List.Elements.{Contains-append_left, Contains-push}
 use Rattle.dired_text.specs.Paths.{Names}
+use Rattle.commit_steps.specs.declared.step.Step.{Step}
 use Rattle.edit_words.specs.declared.row.Row.{Row}
 use Rattle.plan_moves.specs.Waiting.{NoneReady}
 use Rattle.commit_plan.specs.declared.board.Board.{Board}
 use Rattle.commit_plan.specs.declared.changes.Stand.{Stand}
 use Rattle.commit_plan.specs.declared.changes.Stand.TheVariants.{Left, Waits}
 use Rattle.commit_plan.specs.declared.changes.Change.{Change}
-use Rattle.commit_plan.specs.Stands.{change, is_ready_at, is_ready_in, waits_of}
+use Rattle.commit_plan.specs.Stands.{IsCarried, IsPutAway, change, is_ready_at, is_ready_in, waits_of}
 use Rattle.commit_plan.specs.Boards.{Blocks, BlocksAt, HasTurn, HaveTurns, IsNoted, IsReleased, Waiter}
 use Rattle.commit_plan.specs.Boards.HasTurn.{left, one_of, queues, listed}
 use Rattle.commit_plan.proofs.ChangeLemmas.{contains_cases, contains_none}
@@ -76,3 +78,28 @@ module _ (b n : Board) (i : ℕ) (d : Change) (changed : n.changes.items ≡ set
         | inl here ↦ queues (released.moved k (subst (λ (x : ℕ). Waiter b.awaiting.items x k) here w))
         | inr other ↦ listed j (released.kept j k other w) (m.0, m.1, kept_at j m.0 other m.2, kept_at k m.1 apart m.3, m.4)
       ]
+
+-- the change i departs,
+pub turns_carried_out : (b n : Board) (i : ℕ) (step : Step) (rest : List ℕ) → IsCarried b.changes.items i n.changes.items step → IsReleased b.awaiting.items i b.queue.items n.awaiting.items n.queue.items
+    → HaveTurns b (i ∷ rest) → HaveTurns n rest
+turns_carried_out b n i step rest by released turns =
+    let d = change by.row Left in
+    let here : slice_get n.changes.items i ≡ Some d = ap (λ (l : List Change). slice_get l i) by.now ∙ set_here b.changes.items i _ d by.was in
+    turns_released b n i d by.now b.queue.items released (λ k c. c) (i ∷ rest) rest (λ k c. elim (contains_cases i k rest c) [ inl same ↦ inl (sym same) | inr more ↦ inr more ]) (left by.row here) turns
+
+-- or is put away, and is queued
+pub turns_put_away : (b n : Board) (i : ℕ) (spot : Names) (step : Step) (queue : List ℕ) → IsPutAway b.changes.items i spot n.changes.items step → queue ≡ b.queue.items ++ i ∷ []
+    → IsReleased b.awaiting.items i queue n.awaiting.items n.queue.items → HaveTurns b [] → HaveTurns n []
+turns_put_away b n i spot step queue by pushed released turns =
+    turns_released b n i (change by.row (Waits true spot by.to)) by.now queue released (λ k c. subst (λ (l : List ℕ). Contains l k) (sym pushed) (Contains-append_left b.queue.items (i ∷ []) k c)) [] []
+    (λ k c. inr c) (queues (released.queued i (subst (λ (l : List ℕ). Contains l i) (sym pushed) (Contains-push b.queue.items i)))) turns
+
+-- the queue was taken away
+pub turns_taken : (b n : Board) (rest : List ℕ) → HaveTurns b [] → n.changes.items ≡ b.changes.items → n.awaiting.items ≡ b.awaiting.items → rest ≡ b.queue.items → HaveTurns n rest
+turns_taken b n rest turns changes awaiting taken k within = by_turn (turns k (subst (λ (l : List Change). k < length l) changes within))
+  where
+    by_turn : HasTurn b [] k → HasTurn n rest k
+    by_turn (left o e) = left o (ap (λ (l : List Change). slice_get l k) changes ∙ e)
+    by_turn (one_of c) = absurd (contains_none k c)
+    by_turn (queues c) = one_of (subst (λ (l : List ℕ). Contains l k) (sym taken) c)
+    by_turn (listed a w m) = listed a (subst (λ (l : List (Vec ℕ Global)). Waiter l a k) (sym awaiting) w) (subst (λ (l : List Change). BlocksAt l a k) (sym changes) m)

@@ -6,8 +6,8 @@ use Rattle.commit_plan.specs.declared.changes.Change.{Change}
 use Rattle.commit_plan.specs.declared.changes.Stand.TheVariants.{Left}
 use Rattle.commit_plan.specs.Stands.{change, is_ready_at}
 use Rattle.commit_plan.specs.Boards.{BlocksAt, HasKeepers}
-use Rattle.commit_plan.proofs.RunLemmas.{sound_noted}
-use Rattle.commit_plan.proofs.TurnLemmas.{turns_done, turns_noted}
+use Rattle.commit_plan.proofs.RunLemmas.{sound_carried, sound_noted}
+use Rattle.commit_plan.proofs.TurnLemmas.{turns_carried_out, turns_done, turns_noted}
 use Rattle.commit_plan.proofs.board.Board.settle.Goals as goal
 
 pub look_at-requires-clause-keepers : goal.look_at-requires-clause-keepers
@@ -35,7 +35,9 @@ returns-in_ok-note-in-Awaits-clause-turns c = λ rest turns.
     turns_noted c.args.self.now _ c.args.i c.in-Awaits.j rest refl refl c.in_ok-note-in-Awaits.ensures blocks turns
 
 pub returns-in_ok-release-in-Free-clause-sound : goal.returns-in_ok-release-in-Free-clause-sound
-returns-in_ok-release-in-Free-clause-sound c = ?
+returns-in_ok-release-in-Free-clause-sound c =
+    sound_carried c.args.self.now _ c.args.i c.carry-step.result c.index.result.now c.requires.sound c.carry-step.ensures c.index.ensures c.drop_departing.ensures c.in_ok-release-in-Free.ensures
 
 pub returns-in_ok-release-in-Free-clause-turns : goal.returns-in_ok-release-in-Free-clause-turns
-returns-in_ok-release-in-Free-clause-turns c = ?
+returns-in_ok-release-in-Free-clause-turns c = λ rest turns.
+    turns_carried_out c.args.self.now _ c.args.i c.carry-step.result rest c.carry-step.ensures c.in_ok-release-in-Free.ensures turns
