@@ -92,6 +92,10 @@ module _ (rs : List Row) (n : ℕ) where
   way_done b steps none way =
       moved_all rs n b.changes.items steps none (no_deepest b.changes.items way.sound.spelled (λ k s here. contains_none s (way.left k s here))) way.moved
 
+  pub way_same : (m : ℕ) (paths : List Names) (b c : Board) (steps others : List Step) → m ≡ n → c ≡ b → others ≡ steps → IsUnderWay rs n paths b steps → IsUnderWay rs m paths c others
+  way_same m paths b c steps others number board same way =
+      subst (λ (k : ℕ). IsUnderWay rs k paths c others) (sym number) (subst (λ (x : Board). IsUnderWay rs n paths x others) (sym board) (subst (λ (l : List Step). IsUnderWay rs n paths b l) (sym same) way))
+
 -- ---- the paths
 
 source_listed : (rs : List Row) (k : ℕ) (r : Row) (s : Names) → slice_get rs k ≡ Some r → r.source ≡ Some s → Contains (filter_map source_of rs) s
@@ -130,6 +134,12 @@ from_one paths i d h = let e : suc i ≡ i + 1 = omega arith in go paths i h ∙
     go [] i h = absurd (omega (arith, h))
     go (p ∷ l) zero h = refl
     go (p ∷ l) (suc i) h = go l i (omega (arith, h))
+
+pub none_left : (paths : List Names) (i : ℕ) → length paths ≤ i → drop i paths ≡ []
+none_left [] zero h = refl
+none_left [] (suc i) h = refl
+none_left (p ∷ paths) zero h = absurd (omega (arith, h))
+none_left (p ∷ paths) (suc i) h = none_left paths i (omega (arith, h))
 
 -- those behind one come behind it
 pub rest_behind : (paths : List Names) (i : ℕ) (p : Names) → IsSorted deeper_cmp paths → i < length paths → get_or paths i p ≡ p → (s : Names) → Contains (drop (i + 1) paths) s → (p ≡ s) ⊎ (is_before (Some p) (Some s) ≡ true)

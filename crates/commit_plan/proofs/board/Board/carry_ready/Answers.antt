@@ -43,7 +43,7 @@ loop-i-preserved c =
 
 pub loop-alloc-preserved : goal.loop-alloc-preserved
 loop-alloc-preserved c =
-    let done : c.loop-i.i-iterator.rest.items ≡ [] = search rules in
+    let done : c.loop-i.i-iterator.rest.items ≡ [] = c.in-None.ensures.steps in
     record {
       sound = c.loop-i.invariant.sound;
       have = subst (λ (l : List ℕ). HaveTurns c.loop-i.self l) done c.loop-i.invariant.have;
