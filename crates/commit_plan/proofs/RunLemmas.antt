@@ -164,6 +164,10 @@ rounds_fall before old new t w (inr p) =
     let most : turns new.changes.items ≤ before = p.0 in
     omega (arith, t, w, most, none)
 
+pub empty_is : (ks : List ℕ) → length ks ≡ 0 → ks ≡ []
+empty_is [] e = refl
+empty_is (k ∷ ks) e = absurd (omega (arith, e))
+
 -- ---- one round: all that were queued are looked at
 
 -- What holds while `rest` is still to be looked at, where `before` turns were left when the round began.

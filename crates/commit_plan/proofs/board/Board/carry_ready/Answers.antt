@@ -5,7 +5,7 @@ use Rattle.commit_steps.specs.declared.step.Step.{Step}
 use Rattle.commit_plan.specs.Stands.{turns}
 use Rattle.commit_plan.specs.Boards.{HaveTurns, IsSettled}
 use Rattle.commit_plan.proofs.ChangeLemmas.{contains_head}
-use Rattle.commit_plan.proofs.RunLemmas.{IsRound, round_begins, round_goes}
+use Rattle.commit_plan.proofs.RunLemmas.{IsRound, empty_is, round_begins, round_goes}
 use Rattle.commit_plan.proofs.board.Board.carry_ready.Goals as goal
 
 pub loop-i-init : goal.loop-i-init
@@ -43,7 +43,7 @@ loop-i-preserved c =
 
 pub loop-alloc-preserved : goal.loop-alloc-preserved
 loop-alloc-preserved c =
-    let done : c.loop-i.i-iterator.rest.items ≡ [] = c.in-None.ensures.steps in
+    let done : c.loop-i.i-iterator.rest.items ≡ [] = empty_is c.loop-i.i-iterator.rest.items (sym c.loop-i.i-iterator.rest.ok.0 ∙ c.in-None.ensures.steps.0) in
     record {
       sound = c.loop-i.invariant.sound;
       have = subst (λ (l : List ℕ). HaveTurns c.loop-i.self l) done c.loop-i.invariant.have;
