@@ -200,16 +200,16 @@ keepers_noted cs i c m n at own has updated p k = (down, up)
               let is : i ≡ k = own i k c keeper.0 p at keeper.1 (from_is c.row.source p g.1) keeper.3 in
               if_noted _ _ _ i noted (updated p) ∙ ap (λ (x : ℕ). Some x) is
           | inr other ↦ elim (here_or_apart k i) [
-              | inl here ↦
-                  let same : keeper.0 ≡ c = same_Some _ _ (sym keeper.1 ∙ (ap (slice_get cs) here ∙ at)) in
-                  let no : (keeps_above c.row c.stand && is_from c.row.source p) ≡ true =
-                  ap (λ (b : Bool). b && is_from c.row.source p) (subst (λ (x : Change). keeps_above x.row x.stand ≡ true) same keeper.2)
-                  ∙ is_from_itself c.row.source p (subst (λ (x : Change). x.row.source ≡ Some p) same keeper.3) in
-                  let both_ways : true ≡ false = sym no ∙ other in absurd cc
-              | inr apart ↦
-                  let less : k < i + 1 = h.0 in
-                  if_other _ _ _ i other (updated p) ∙ (has p k).1 (omega (arith, less, apart), keeper)
-            ]
+            | inl here ↦
+                let same : keeper.0 ≡ c = same_Some _ _ (sym keeper.1 ∙ (ap (slice_get cs) here ∙ at)) in
+                let no : (keeps_above c.row c.stand && is_from c.row.source p) ≡ true =
+                ap (λ (b : Bool). b && is_from c.row.source p) (subst (λ (x : Change). keeps_above x.row x.stand ≡ true) same keeper.2)
+                ∙ is_from_itself c.row.source p (subst (λ (x : Change). x.row.source ≡ Some p) same keeper.3) in
+                let both_ways : true ≡ false = sym no ∙ other in absurd cc
+            | inr apart ↦
+                let less : k < i + 1 = h.0 in
+                if_other _ _ _ i other (updated p) ∙ (has p k).1 (omega (arith, less, apart), keeper)
+          ]
         ]
 
 pub keepers_all : (cs : List Change) (n : ℕ) (m : BTreeMap Names ℕ) → length cs ≤ n → HasKeepersBelow n cs m → HasKeepers cs m

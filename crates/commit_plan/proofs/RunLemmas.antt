@@ -157,6 +157,10 @@ few_waits : (ks : List ℕ) → waits_in ks ≤ 1
 few_waits [] = omega arith
 few_waits (k ∷ ks) = omega arith
 
+pub some_waits : (ks : List ℕ) → (length ks ≡ 0 → ⊥) → waits_in ks ≡ 1
+some_waits [] h = absurd (h refl)
+some_waits (k ∷ ks) h = refl
+
 pub rounds_fall : (before : ℕ) (old new : Board) → turns old.changes.items ≡ before → waits_in old.queue.items ≡ 1 → HasProgress before new → rounds new < rounds old
 rounds_fall before old new t w (inl less) = let f = few_waits new.queue.items in omega (arith, t, w, less, f)
 rounds_fall before old new t w (inr p) =

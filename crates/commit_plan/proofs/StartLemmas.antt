@@ -18,9 +18,9 @@ pub own_sources : (rs : List Row) → SourcesDiffer rs → HasOwnSources (first_
 own_sources rs differ j k b c p at_j at_k source_b source_c = elim (here_or_apart j k) [
   | inl same ↦ same
   | inr apart ↦ elim (cases_Bool (nat_lt j k)) [
-      | inl less ↦ absurd (no_two j k b c at_j at_k source_b source_c (ltb-true j k less))
-      | inr not_less ↦ let most = ltb-false j k not_less in absurd (no_two k j c b at_k at_j source_c source_b (omega (arith, most, apart)))
-    ]
+    | inl less ↦ absurd (no_two j k b c at_j at_k source_b source_c (ltb-true j k less))
+    | inr not_less ↦ let most = ltb-false j k not_less in absurd (no_two k j c b at_k at_j source_c source_b (omega (arith, most, apart)))
+  ]
 ]
   where
     no_two : (j k : ℕ) (b c : Change) → slice_get (first_changes 0 rs) j ≡ Some b → slice_get (first_changes 0 rs) k ≡ Some c → b.row.source ≡ Some p → c.row.source ≡ Some p → j < k → ⊥

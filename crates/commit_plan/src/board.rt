@@ -186,13 +186,7 @@ fn look_at(changes: &[Change], keepers: &Keepers, i: usize) -> Outlook
 }
 
 // A change that blocks one which waits so.
-fn blocker(
-    changes: &[Change],
-    keepers: &Keepers,
-    away: bool,
-    at: &Path,
-    to: &Path,
-) -> Option<usize>
+fn blocker(changes: &[Change], keepers: &Keepers, away: bool, at: &Path, to: &Path) -> Option<usize>
     requires rooted { AreRooted changes.now }
     requires keepers { HasKeepers changes.now keepers.now }
     ensures some { IfSome result (λ j. IsBlocker changes.now j away at.now to.now) }

@@ -80,7 +80,10 @@ pub fn keeper_below(keepers: &Keepers, path: &Path) -> Option<usize>
     ensures some { IfSome result (λ i. IsKeeperBelow keepers.now path.now i) }
     ensures none { IfNone result (NoKeeperBelow keepers.now path.now) }
 {
-    match keepers.range((Bound::Excluded(path), Bound::Unbounded)).next() {
+    match keepers
+        .range((Bound::Excluded(path), Bound::Unbounded))
+        .next()
+    {
         Some((source, i)) if rest_below(path.names(), source.names()).is_some() => Some(*i),
         _ => None,
     }

@@ -5,7 +5,7 @@ use Rattle.commit_steps.specs.declared.step.Step.{Step}
 use Rattle.commit_plan.specs.Stands.{turns}
 use Rattle.commit_plan.specs.Boards.{HaveTurns, IsSettled}
 use Rattle.commit_plan.proofs.ChangeLemmas.{contains_head}
-use Rattle.commit_plan.proofs.RunLemmas.{IsRound, empty_is, round_begins, round_goes}
+use Rattle.commit_plan.proofs.RunLemmas.{IsRound, empty_is, round_begins, round_goes, rounds_fall, some_waits, waits_in}
 use Rattle.commit_plan.proofs.board.Board.carry_ready.Goals as goal
 
 pub loop-i-init : goal.loop-i-init
@@ -49,3 +49,8 @@ loop-alloc-preserved c =
       have = subst (λ (l : List ℕ). HaveTurns c.loop-i.self l) done c.loop-i.invariant.have;
       run = c.loop-i.invariant.run;
     }
+
+pub loop-alloc-smaller : goal.loop-alloc-smaller
+loop-alloc-smaller c =
+    let queued : waits_in c.loop-alloc.self.queue.items ≡ 1 = some_waits c.loop-alloc.self.queue.items (search rules) in
+    rounds_fall (turns c.loop-alloc.self.changes.items) c.loop-alloc.self c.loop-i.self refl queued c.loop-i.invariant.progress
