@@ -11,7 +11,7 @@ use Rattle.plan_moves.specs.Waiting.{Waiting, put_away, without}
 use Rattle.commit_plan.specs.declared.changes.Stand.{Stand}
 use Rattle.commit_plan.specs.declared.changes.Stand.TheVariants.{Left, Waits}
 use Rattle.commit_plan.specs.declared.changes.Change.{Change}
-use Rattle.commit_plan.specs.Stands.{change, wait_by, waits_of}
+use Rattle.commit_plan.specs.Stands.{HasLine, LinesApart, change, wait_by, waits_of}
 
 module _ {X : Type 0} where
   pub contains_head : (x : X) (xs : List X) → Contains (x ∷ xs) x
@@ -28,14 +28,6 @@ module _ {X : Type 0} where
     | inl one ↦ elim (Contains-push_cases [] x y one) [ inl no_one ↦ absurd (contains_none y no_one) | inr same ↦ inl same ]
     | inr more ↦ inr more
   ]
-
--- each change has another line than those before it
-abbrev pub HasLine : ℕ → List Change → Type 0
-HasLine line cs = (k : ℕ) (c : Change) → slice_get cs k ≡ Some c → c.row.line ≡ line → ⊥
-
-abbrev pub LinesApart : List Change → Type 0
-LinesApart [] = Unit {0}
-LinesApart (c ∷ cs) = HasLine c.row.line cs × LinesApart cs
 
 pub other_line : (a b : ℕ) → (a ≡ b → ⊥) → (a == b) ≡ false
 other_line a b n = elim (eqb_tells a b) [ inl p ↦ absurd (n p.1) | inr p ↦ p.0 ]

@@ -16,9 +16,9 @@ use Rattle.plan_moves.specs.Moves.{Moves, fresh_spots}
 use Rattle.commit_plan.specs.declared.changes.Stand.{Stand}
 use Rattle.commit_plan.specs.declared.changes.Stand.TheVariants.{Left, Waits}
 use Rattle.commit_plan.specs.declared.changes.Change.{Change}
-use Rattle.commit_plan.specs.Stands.{AreSpelled, IsSpelledAt, Moved, change, first_changes, first_stand, first_stand_by, turns, turns_by, wait_by, waits_of}
+use Rattle.commit_plan.specs.Stands.{AreSpelled, LinesApart, IsSpelledAt, Moved, change, first_changes, first_stand, first_stand_by, turns, turns_by, wait_by, waits_of}
 use Rattle.commit_plan.proofs.MovedLemmas.{at_of}
-use Rattle.commit_plan.proofs.ChangeLemmas.{LinesApart, other_line, same_line}
+use Rattle.commit_plan.proofs.ChangeLemmas.{other_line, same_line}
 
 -- ---- one row
 
@@ -114,7 +114,7 @@ spots_at n (r ∷ rs) (suc i) o at to a e =
 
 -- ---- the lines
 
-row_at : (n : ℕ) (rs : List Row) (i : ℕ) (c : Change) → slice_get (first_changes n rs) i ≡ Some c → slice_get rs i ≡ Some c.row
+pub row_at : (n : ℕ) (rs : List Row) (i : ℕ) (c : Change) → slice_get (first_changes n rs) i ≡ Some c → slice_get rs i ≡ Some c.row
 row_at n [] i c e = cc
 row_at n (r ∷ rs) zero c e = ap (λ (o : Option Change). option_map (λ (x : Change). x.row) o) e
 row_at n (r ∷ rs) (suc i) c e = row_at (next_fresh n r) rs i c e

@@ -5,3 +5,12 @@ pub mod FirstLemmas
 pub mod NameLemmas
 pub mod HoldLemmas
 pub mod PlanLemmas
+pub mod PathOrder
+pub mod BlockLemmas
+pub mod KeeperLemmas
+pub mod TurnLemmas
+pub mod DeepLemmas
+pub mod RunLemmas
+pub mod ListLemmas
+pub mod WayLemmas
+pub mod StartLemmas

@@ -16,8 +16,8 @@ use Rattle.plan_moves.specs.Moves.Moves.{carry, knot, over}
 use Rattle.commit_plan.specs.declared.changes.Stand.{Stand}
 use Rattle.commit_plan.specs.declared.changes.Stand.TheVariants.{Left, Waits}
 use Rattle.commit_plan.specs.declared.changes.Change.{Change}
-use Rattle.commit_plan.specs.Stands.{AreSpelled, IsBest, IsCarried, IsPutAway, IsSpelledAt, Moved, change, is_ready_at, is_ready_in, turns, turns_by, waits_of}
-use Rattle.commit_plan.proofs.ChangeLemmas.{HasLine, LinesApart, other_line, same_line, waits, waits_away, waits_left}
+use Rattle.commit_plan.specs.Stands.{AreSpelled, HasLine, LinesApart, IsBest, IsCarried, IsPutAway, IsSpelledAt, Moved, change, is_ready_at, is_ready_in, turns, turns_by, waits_of}
+use Rattle.commit_plan.proofs.ChangeLemmas.{other_line, same_line, waits, waits_away, waits_left}
 use Rattle.commit_plan.proofs.ReadyLemmas.{spelled_at, spelled_to}
 
 -- ---- lists with one change set
@@ -51,7 +51,7 @@ turns_set (d ∷ cs) zero c s e = let f : turns_by d.stand ≡ turns_by c.stand 
 turns_set (d ∷ cs) (suc i) c s e = omega (arith, turns_set cs i c s e)
 
 -- the others stand as they did
-get_set : (cs : List Change) (i k : ℕ) (c d : Change) → slice_get (set cs i d) k ≡ Some c → (d ≡ c) × (i ≡ k) ⊎ (slice_get cs k ≡ Some c)
+pub get_set : (cs : List Change) (i k : ℕ) (c d : Change) → slice_get (set cs i d) k ≡ Some c → (d ≡ c) × (i ≡ k) ⊎ (slice_get cs k ≡ Some c)
 get_set [] i k c d e = inr e
 get_set (x ∷ cs) zero zero c d e = inl (same_Some _ _ e, refl)
 get_set (x ∷ cs) zero (suc k) c d e = inr e
@@ -67,7 +67,7 @@ to_of Left = []
 to_of (Waits away at to) = to
 
 -- changes of one line are one
-same_change : (cs : List Change) (i k : ℕ) (c d : Change) → LinesApart cs → slice_get cs i ≡ Some c → slice_get cs k ≡ Some d → c.row.line ≡ d.row.line → c ≡ d
+pub same_change : (cs : List Change) (i k : ℕ) (c d : Change) → LinesApart cs → slice_get cs i ≡ Some c → slice_get cs k ≡ Some d → c.row.line ≡ d.row.line → c ≡ d
 same_change [] i k c d a e f l = cc
 same_change (x ∷ cs) zero zero c d a e f l = sym (same_Some _ _ e) ∙ same_Some _ _ f
 same_change (x ∷ cs) zero (suc k) c d a e f l = absurd (a.0 k d f (sym l ∙ sym (ap (λ (y : Change). y.row.line) (same_Some _ _ e))))

@@ -1,3 +1,4 @@
 pub mod Stands
 pub mod Holding
 pub mod Promises
+pub mod Boards

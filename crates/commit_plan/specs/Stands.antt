@@ -8,7 +8,7 @@ use Rattle.commit_steps.specs.Staging.{staged, numbered}
 use Rattle.edit_words.specs.declared.row.Row.{Row}
 use Rattle.edit_words.specs.Edited.{is_fresh}
 use Rattle.edit_words.specs.Rows.{is_at, written}
-use Rattle.plan_moves.specs.Waiting.{Waiting, deepest, is_before, waiting, is_ready, keeps_in_place}
+use Rattle.plan_moves.specs.Waiting.{Waiting, deepest, waiting, is_ready, keeps_in_place}
 use Rattle.plan_moves.specs.Moves.{Moves, Spots, fresh_spots}
 use Rattle.commit_plan.specs.declared.names.Entry.{Entry}
 use Rattle.commit_plan.specs.declared.names.Entry.TheVariants.{Temporary, Held, Fresh}
@@ -61,6 +61,14 @@ IsSpelledAt r (Waits false at to) = (to ≡ written r) × (r.source ≡ Some at)
 abbrev pub AreSpelled : List Change → Type 0
 AreSpelled [] = Unit {0}
 AreSpelled (c ∷ cs) = IsSpelledAt c.row c.stand × AreSpelled cs
+
+-- each change has another line than those before it
+abbrev pub HasLine : ℕ → List Change → Type 0
+HasLine line cs = (k : ℕ) (c : Change) → slice_get cs k ≡ Some c → c.row.line ≡ line → ⊥
+
+abbrev pub LinesApart : List Change → Type 0
+LinesApart [] = Unit {0}
+LinesApart (c ∷ cs) = HasLine c.row.line cs × LinesApart cs
 
 -- whether it is ready
 
@@ -115,14 +123,6 @@ abbrev pub waits_at_source : Stand → Bool
 waits_at_source Left = false
 waits_at_source (Waits away at to) = not away
 
-abbrev pub source_in : Option Change → Option Names
-source_in None = None
-source_in (Some c) = c.row.source
-
-abbrev pub is_better_in : List Change → ℕ → Option ℕ → Bool
-is_better_in cs i None = true
-is_better_in cs i (Some j) = is_before (source_in (slice_get cs i)) (source_in (slice_get cs j))
-
 -- the change j of cs is the deepest of some of them
 pub record IsBest (cs some : List Change) (j : ℕ) : Type 0 where
   pub row : Row
@@ -130,14 +130,6 @@ pub record IsBest (cs some : List Change) (j : ℕ) : Type 0 where
   pub to : Names
   pub is : slice_get cs j ≡ Some (change row (Waits false at to))
   pub best : deepest (waits_of some) ≡ Some (record { row = row; is_away = false })
-
-abbrev pub BestIn : List Change → List Change → Option ℕ → Type 0
-BestIn cs some None = deepest (waits_of some) ≡ None
-BestIn cs some (Some j) = IsBest cs some j
-
--- It is the best of some, and then the other one is the best of these and the change i.
-abbrev pub IsBestWith : List Change → ℕ → Option ℕ → Option ℕ → Type 0
-IsBestWith cs i best other = (c : Change) (some : List Change) → slice_get cs i ≡ Some c → BestIn cs some best → BestIn cs (c ∷ some) other
 
 -- ---- one move
 

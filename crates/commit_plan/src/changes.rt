@@ -1,13 +1,16 @@
 // The changes of a plan, and where they stand while it is made.
-ghost use Rattle.std.specs.Prelude.{◌≡◌, ◌++◌, ◌≤◌, IfOk, length, is_some};
+ghost use Rattle.std.specs.Prelude.{◌≡◌, ◌<◌, ◌≤◌, IfOk, length, true};
 ghost use Rattle.edit_words.specs.Edited.{is_fresh as is_fresh_row};
 ghost use Rattle.edit_words.specs.Rows.{written as written_path};
-ghost use Rattle.commit_plan.specs.Stands.{first_changes, first_stand as first_stand_of, max_rows};
+ghost use Rattle.commit_steps.specs.Staging.{staged, temporary};
+ghost use Rattle.commit_plan.specs.Stands.{IsCarried, IsPutAway, WaitsAtSource, first_changes, first_stand as first_stand_of, is_ready_at, max_rows};
 
 use crate::names::{Entry, entry_path};
+use commit_steps::Step;
 use dired_text::{Memory, Path};
 use edit_words::Row;
 use std::alloc::Global;
+use std::mem;
 
 /// Where a change stands.
 #[derive(Drop)]
@@ -75,5 +78,43 @@ fn written(alloc: Global, row: &Row) -> Result<Path, Memory>
     match (&row.to, &row.source) {
         (Some(path), _) | (None, Some(path)) => path.copy(),
         (None, None) => Ok(Path::root(alloc)),
+    }
+}
+
+/// Carries out a ready change.
+pub fn carry(changes: &mut Vec<Change>, i: usize) -> Step
+    requires within { i < length changes.old.items }
+    requires ready { is_ready_at changes.old.items i ≡ true }
+    ensures { IsCarried changes.old.items i changes.new.items result }
+{
+    match mem::replace(&mut changes[i].stand, Stand::Left) {
+        Stand::Waits { at, to, .. } => Step::Rename(at, to),
+        Stand::Left => unreachable!(),
+    }
+}
+
+/// Puts a change that waits at its source into the staging directory.
+pub fn put_away(
+    alloc: Global,
+    changes: &mut Vec<Change>,
+    i: usize,
+    number: u32,
+) -> Result<Step, Memory>
+    requires within { i < length changes.old.items }
+    requires waits { WaitsAtSource changes.old.items i }
+    ensures { IfOk result (IsPutAway changes.old.items i (staged (temporary number)) changes.new.items) }
+{
+    let spot = entry_path(alloc, Entry::Temporary, number)?;
+    let to_spot = spot.copy()?;
+    match mem::replace(&mut changes[i].stand, Stand::Left) {
+        Stand::Waits { at, to, .. } => {
+            changes[i].stand = Stand::Waits {
+                away: true,
+                at: spot,
+                to,
+            };
+            Ok(Step::Rename(at, to_spot))
+        }
+        Stand::Left => unreachable!(),
     }
 }

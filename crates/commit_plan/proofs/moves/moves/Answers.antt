@@ -1,84 +1,62 @@
-use Rattle.std.proofs.Common.{◌≡◌, ◌+◌, ◌<◌, true, None, ◌++◌, ◌∷◌, [], List, ap, sym, subst, arith, rules, length}
-use Rattle.std.proofs.lemmas.Option.{slice_get_within}
+use Rattle.std.proofs.Common.{◌≡◌, ◌+◌, ◌<◌, ◌≤◌, ◌++◌, ◌∷◌, [], List, ℕ, Option, Some, None, IfNone, IfSome, Vec, Global, ap, sym, subst, ◌∙◌, arith, rules, length, drop, get_or}
+use Rattle.std.specs.List.{filter_map}
+use Rattle.std.specs.List.Sorted.{IsPermutation, IsSorted}
+use Rattle.dired_text.specs.Paths.{Names}
 use Rattle.commit_steps.specs.declared.step.Step.{Step}
-use Rattle.commit_steps.specs.Staging.{staged, temporary}
+use Rattle.edit_words.specs.declared.row.Row.{Row}
 use Rattle.plan_moves.specs.Waiting.{NoneReady}
-use Rattle.commit_plan.specs.declared.changes.Change.{Change}
-use Rattle.commit_plan.specs.Stands.{AreSpelled, BestIn, IsBest, IsPutAway, Moved, first_changes, is_ready_at, turns, waits_of}
-use Rattle.commit_plan.proofs.ChangeLemmas.{LinesApart}
-use Rattle.commit_plan.proofs.FirstLemmas.{all_spelled, few_turns, lines_apart, moved_first}
-use Rattle.commit_plan.proofs.MovedLemmas.{apart_away, apart_carried, moved_all, moved_best, moved_carried, spelled_away, spelled_carried, turns_away, turns_carried}
+use Rattle.commit_plan.specs.Stands.{waits_of}
+use Rattle.commit_plan.specs.Boards.{IsAtSource, NoneAtSource, deeper_cmp, source_of}
+use Rattle.commit_plan.proofs.TurnLemmas.{none_is_ready}
+use Rattle.commit_plan.proofs.WayLemmas.{IsUnderWay, from_one, none_left, rest_behind, way_away, way_done, way_first, way_run, way_same, way_skip}
+use Rattle.commit_plan.proofs.moves.moves.Goals.{in-Some+in_ok-put_away+in_ok-push, in_default}
 use Rattle.commit_plan.proofs.moves.moves.Goals as goal
 
-pub loop-i-init : goal.loop-i-init
-loop-i-init c =
+pub loop-source-init : goal.loop-source-init
+loop-source-init c =
     let rs = c.args.rows.items in
-    let e : c.in_ok-changes.changes.items ≡ first_changes 0 rs = search rules in
+    let paths = c.deref-source-items.result.now in
     let none : c.new-steps.result.items ≡ [] = search rules in
-    let t : turns c.in_ok-changes.changes.items ≡ turns (first_changes 0 rs) = ap turns e in
-    record {
-      spelled = subst (λ (l : List Change). AreSpelled l) (sym e) (all_spelled 0 rs);
-      apart = subst (λ (l : List Change). LinesApart l) (sym e) (lines_apart 0 rs c.requires.lines);
-      moved = subst (λ (l : List Change). Moved rs 0 l c.new-steps.result.items) (sym e) (subst (λ (l : List Step). Moved rs 0 (first_changes 0 rs) l) (sym none) (moved_first rs c.requires.lines));
-      few = omega (arith, t, few_turns 0 rs, c.requires.few);
-    }
+    let of_rows = subst (λ (l : List Row). IsPermutation (filter_map source_of l) c.in_ok-sources.sources.items) c.deref.ensures.value c.in_ok-sources.ensures.paths in
+    let perm = subst (λ (l : List Names). IsPermutation (filter_map source_of rs) l) (sym c.deref-source-items.ensures.value) of_rows in
+    subst (λ (l : List Step). IsUnderWay rs 0 paths c.in_ok-board.board l) (sym none)
+    (way_first rs paths c.in_ok-board.board c.requires.lines c.requires.few perm c.in_ok-board.ensures.changes c.in_ok-board.ensures.sound c.in_ok-board.ensures.turns)
 
-pub carry-requires-clause-within : goal.carry-requires-clause-within
-carry-requires-clause-within c =
-    subst (λ (l : List Change). c.in-Some.i < length l) c.deref.ensures.value c.in-Some.ensures.within
+pub loop-source-preserved : goal.loop-source-preserved
+loop-source-preserved c =
+    let rs = c.args.rows.items in
+    let n = c.loop-source.number in
+    let paths = c.deref-source-items.result.now in
+    let i = c.loop-source.source-index in
+    let p = c.source-item.result in
+    let rest = drop (i + 1) paths in
+    let b = c.carry_ready.new.self in
+    let steps = c.carry_ready.new.steps.items in
+    let within : i < length paths = omega (arith, c.loop-source-test.true, c.loop-source.auto.source-index-end) in
+    let sorted = subst (λ (l : List Names). IsSorted deeper_cmp l) (sym c.deref-source-items.ensures.value) c.in_ok-sources.ensures.sorted in
+    let first : drop i paths ≡ p ∷ rest = from_one paths i p within ∙ ap (λ (x : Names). x ∷ rest) (sym c.source-item.is) in
+    let before = subst (λ (l : List Names). IsUnderWay rs n l c.loop-source.board c.loop-source.steps.items) first c.loop-source.invariant in
+    let way = way_run rs n (p ∷ rest) c.loop-source.board b c.loop-source.steps.items steps c.in_ok-carry_ready.ensures.sound c.in_ok-carry_ready.ensures.turns c.in_ok-carry_ready.ensures.run before in
+    let none = none_is_ready b c.in_ok-carry_ready.ensures.turns c.in_ok-carry_ready.ensures.none in
+    elim c.match-source_at.branch [
+      | in-Some+in_ok-put_away+in_ok-push w ↦
+          let here = subst (λ (o : Option ℕ). IfSome o (λ k. IsAtSource b.changes.items k p)) w.in-Some.is c.source_at.ensures.some in
+          let pushed : w.push.new.self.items ≡ steps ++ w.in_ok-put_away.field-0 ∷ [] = search rules in
+          let next = way_away rs n p rest b w.put_away.new.self steps w.in-Some.i w.in_ok-put_away.field-0 (rest_behind paths i p sorted within (sym c.source-item.is)) none here
+          w.in_ok-put_away.ensures.step w.in_ok-put_away.ensures.sound w.in_ok-put_away.ensures.turns way in
+          way_same rs (n + 1) _ rest w.put_away.new.self _ (steps ++ w.in_ok-put_away.field-0 ∷ []) _ w.number-is w.board-is (ap (λ (v : Vec Step Global). v.items) w.steps-is ∙ pushed) next
+      | in_default w ↦
+          let gone = subst (λ (o : Option ℕ). IfNone o (NoneAtSource b.changes.items p)) w.in_default.is c.source_at.ensures.none in
+          way_same rs n _ rest b _ steps _ w.number-is w.board-is (ap (λ (v : Vec Step Global). v.items) w.steps-is) (way_skip rs n p rest b steps gone way)
+    ]
 
-pub loop-i-smaller-in_ok-push : goal.loop-i-smaller-in_ok-push
-loop-i-smaller-in_ok-push c = turns_carried c.loop-i.changes.items c.in-Some.i c.carry.new.changes.items c.carry.result c.carry.ensures
-
-pub loop-i-preserved-in_ok-push : goal.loop-i-preserved-in_ok-push
-loop-i-preserved-in_ok-push c =
-    let cs = c.loop-i.changes.items in
-    let new = c.carry.new.changes.items in
-    let i = c.in-Some.i in
-    let step = c.carry.result in
-    let inv = c.loop-i.invariant in
-    let ready : is_ready_at cs i ≡ true = subst (λ (l : List Change). is_ready_at l i ≡ true) c.deref.ensures.value c.in-Some.ensures.ready in
-    let steps : c.push.new.self.items ≡ c.loop-i.steps.items ++ step ∷ [] = search rules in
-    record {
-      spelled = spelled_carried cs i new step inv.spelled c.carry.ensures;
-      apart = apart_carried cs i new step inv.apart c.carry.ensures;
-      moved = subst (λ (l : List Step). Moved c.args.rows.items c.loop-i.number new l) (sym steps) (moved_carried c.args.rows.items c.loop-i.number cs c.loop-i.steps.items i new step inv.spelled inv.apart ready c.carry.ensures inv.moved);
-      few = omega (arith, inv.few, turns_carried cs i new step c.carry.ensures);
-    }
-
-pub put_away-requires-clause-within : goal.put_away-requires-clause-within
-put_away-requires-clause-within c =
-    let cs = c.loop-i.changes.items in
-    let best : IsBest cs cs c.in-Some-deepest.i = subst (λ (l : List Change). IsBest l l c.in-Some-deepest.i) c.deref-in_default.ensures.value c.in-Some-deepest.ensures in
-    slice_get_within cs c.in-Some-deepest.i _ best.is
-
-pub loop-i-smaller : goal.loop-i-smaller
-loop-i-smaller c =
-    let t = turns_away c.loop-i.changes.items c.in-Some-deepest.i (staged (temporary c.loop-i.number)) c.put_away.new.changes.items c.in_ok-put_away.field-0 c.in_ok-put_away.ensures in
-    omega (arith, t)
-
-pub loop-i-preserved : goal.loop-i-preserved
-loop-i-preserved c =
-    let cs = c.loop-i.changes.items in
-    let new = c.put_away.new.changes.items in
-    let i = c.in-Some-deepest.i in
-    let n = c.loop-i.number in
-    let step = c.in_ok-put_away.field-0 in
-    let inv = c.loop-i.invariant in
-    let by : IsPutAway cs i (staged (temporary n)) new step = c.in_ok-put_away.ensures in
-    let none : NoneReady (waits_of cs) = subst (λ (l : List Change). NoneReady (waits_of l)) c.deref.ensures.value (search rules) in
-    let best : IsBest cs cs i = subst (λ (l : List Change). IsBest l l i) c.deref-in_default.ensures.value c.in-Some-deepest.ensures in
-    let steps : c.push-in-Some-deepest.new.self.items ≡ c.loop-i.steps.items ++ step ∷ [] = search rules in
-    record {
-      spelled = spelled_away cs i (staged (temporary n)) new step inv.spelled by;
-      apart = apart_away cs i (staged (temporary n)) new step inv.apart by;
-      moved = subst (λ (l : List Step). Moved c.args.rows.items (n + 1) new l) (sym steps) (moved_best c.args.rows.items n cs c.loop-i.steps.items i new step inv.spelled inv.apart none by best inv.moved);
-      few = omega (arith, inv.few, turns_away cs i (staged (temporary n)) new step by);
-    }
-
-pub returns-in_default-deepest : goal.returns-in_default-deepest
-returns-in_default-deepest c =
-    let cs = c.loop-i.changes.items in
-    let none : NoneReady (waits_of cs) = subst (λ (l : List Change). NoneReady (waits_of l)) c.deref.ensures.value (search rules) in
-    let deep : BestIn cs cs None = subst (λ (l : List Change). BestIn l l None) c.deref-in_default.ensures.value (search rules) in
-    moved_all c.args.rows.items c.loop-i.number cs c.loop-i.steps.items none deep c.loop-i.invariant.moved
+pub returns : goal.returns
+returns c =
+    let rs = c.args.rows.items in
+    let n = c.loop-source.number in
+    let paths = c.deref-source-items.result.now in
+    let past : length paths ≤ c.loop-source.source-index = omega (arith, c.loop-source-test.false, c.loop-source.auto.source-index-end) in
+    let before = subst (λ (l : List Names). IsUnderWay rs n l c.loop-source.board c.loop-source.steps.items) (none_left paths c.loop-source.source-index past) c.loop-source.invariant in
+    let last = c.in_ok-carry_ready-2.ensures in
+    let way = way_run rs n [] c.loop-source.board c.carry_ready-2.new.self c.loop-source.steps.items c.carry_ready-2.new.steps.items last.sound last.turns last.run before in
+    way_done rs n c.carry_ready-2.new.self c.carry_ready-2.new.steps.items (none_is_ready c.carry_ready-2.new.self last.turns last.none) way

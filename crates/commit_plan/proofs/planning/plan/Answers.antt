@@ -3,7 +3,7 @@ use Rattle.dired_text.specs.Paths.{Names}
 use Rattle.commit_steps.specs.declared.step.Step.TheVariants.{MakeDir}
 use Rattle.edit_words.specs.declared.row.Row.{Row}
 use Rattle.edit_words.specs.Rows.{rows}
-use Rattle.edit_words.specs.WellFormed.{AreAsked, LinesRise}
+use Rattle.edit_words.specs.WellFormed.{AreAsked, LinesRise, SourcesDiffer}
 use Rattle.edit_check.specs.StandFor.{changes_in, found_in}
 use Rattle.edit_rules.specs.Plans.{victims_of}
 use Rattle.plan_moves.specs.Moves.{Moves, fresh_spots}
@@ -22,6 +22,11 @@ add_holds-requires c =
     let held : c.in_ok-held.held.items ≡ held_from c.victims.result.now c.in_ok-rows.rows.items = search rules in
     let short : length c.in_ok-held.held.items ≡ length (held_from c.victims.result.now c.in_ok-rows.rows.items) = ap (λ (l : List Names). length l) held in
     omega (arith, short, few, few_held c.victims.result.now c.in_ok-rows.rows.items)
+
+pub moves-requires-clause-sources : goal.moves-requires-clause-sources
+moves-requires-clause-sources c =
+    let made : c.in_ok-rows.rows.items ≡ rows c.changes-changes.result.now = search rules in
+    subst (λ (l : List Row). SourcesDiffer l) (sym made) c.changes-changes.ensures.asked.sources
 
 pub returns-clause-plan : goal.returns-clause-plan
 returns-clause-plan c =
