@@ -1,0 +1,7 @@
+pub mod Totals
+pub mod StagedBytes
+pub mod MoveCosts
+pub mod RowCosts
+pub mod TextBytes
+pub mod PlanCosts
+pub mod Fits

@@ -1,0 +1,8 @@
+// Laws over the definitions alone.
+ghost use Rattle.plan_journals.specs.Laws.{PlansFitAJournal};
+
+/// The paths of a plan's steps have at most twice as many bytes as the paths of its changes, and 104 more for each change. Of changes
+/// that aren't refused they are at most 268,435,456, the steps are fewer than 2^32, and their journal has at most 1,073,741,824 bytes.
+pub fn plans_fit_a_journal()
+    ensures { PlansFitAJournal }
+{}
