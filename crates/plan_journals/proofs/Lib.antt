@@ -5,3 +5,4 @@ pub mod RowCosts
 pub mod TextBytes
 pub mod PlanCosts
 pub mod Fits
+pub mod Taken
