@@ -6,3 +6,5 @@ pub mod TextBytes
 pub mod PlanCosts
 pub mod Fits
 pub mod Taken
+pub mod StepPaths
+pub mod SpelledSteps

@@ -75,7 +75,7 @@ differ_cost f (p ∷ ps) qs sorted within =
     let own = less_one others f qs p (within p (contains_head p ps)) (ap not (same_itself p)) in
     omega arith
 
-missing_within : (sight : Sight) (rs : List Row) (ps : List Names) → AreMissing sight rs ps → (p : Names) → Contains ps p → Contains (flat_map (missing_above sight) rs) p
+pub missing_within : (sight : Sight) (rs : List Row) (ps : List Names) → AreMissing sight rs ps → (p : Names) → Contains ps p → Contains (flat_map (missing_above sight) rs) p
 missing_within sight rs ps are p c =
     let has : list_any (is_same_path p) (flat_map (missing_above sight) rs) ≡ true = sym (are.same p) ∙ any_from (is_same_path p) ps p c (same_itself p) in
     let found = any_parts (is_same_path p) (flat_map (missing_above sight) rs) has in
