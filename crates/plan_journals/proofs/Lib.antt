@@ -8,3 +8,4 @@ pub mod Fits
 pub mod Taken
 pub mod StepPaths
 pub mod SpelledSteps
+pub mod MovesSpelled

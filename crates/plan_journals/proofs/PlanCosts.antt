@@ -35,7 +35,7 @@ use Rattle.plan_journals.proofs.RowCosts.{RemovedAlone, hold_cost, dir_cost, mod
 
 -- ---- numbers
 
-few_held : (sight : Sight) (all rs : List Row) → length (flat_map (held_by sight all) rs) ≤ 2 * length rs
+pub few_held : (sight : Sight) (all rs : List Row) → length (flat_map (held_by sight all) rs) ≤ 2 * length rs
 few_held sight all [] = omega arith
 few_held sight all (r ∷ rs) =
     let both = length-append (held_by sight all r) (flat_map (held_by sight all) rs) in
@@ -47,7 +47,7 @@ one_at_most : (b : Bool) → zero_if b ≤ 1
 one_at_most true = omega arith
 one_at_most false = omega arith
 
-few_here : (rs : List Row) → count_here (waiting rs) ≤ length rs
+pub few_here : (rs : List Row) → count_here (waiting rs) ≤ length rs
 few_here [] = omega arith
 few_here (r ∷ rs) = go (few_here rs) (cases_Bool (is_fresh r || is_some r.to))
   where
