@@ -9,3 +9,4 @@ pub mod Taken
 pub mod StepPaths
 pub mod SpelledSteps
 pub mod MovesSpelled
+pub mod Spelled

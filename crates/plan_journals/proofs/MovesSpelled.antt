@@ -1,10 +1,10 @@
 -- A journal can spell the moves: in whatever order ready changes are carried out, none leads above or below itself.
-use Rattle.std.proofs.Common.{◌≡◌, ◌≢◌, ◌⊎◌, inl, inr, ℕ, ◌+◌, ◌<◌, ◌≤◌, ◌^◌, ◌==◌, not, ◌||◌, ◌&&◌, Bool, true, false, cond, List, [], ◌∷◌, ◌++◌, map, filter, length, refl, sym, ◌∙◌, ap, subst, arith, length-append, Option, Some, None, is_some, eqb-true}
+use Rattle.std.proofs.Common.{◌≡◌, ◌⊎◌, inl, inr, ℕ, ◌+◌, ◌<◌, ◌≤◌, ◌^◌, ◌==◌, not, ◌||◌, ◌&&◌, Bool, true, false, List, [], ◌∷◌, length, refl, sym, ◌∙◌, ap, subst, arith, length-append, Option, Some, None, is_some, eqb-true}
 use Rattle.std.specs.Prelude.{Contains, unwrap_or}
 use Rattle.std.specs.List.{AllByRecursion, list_any}
-use Rattle.std.proofs.lemmas.Bool.{cond-true, cond-false, cases_Bool, and_parts, and_from, or_cases, or_parts, or_left, or_right, not-true, not_from_false, false_from_ne_true, eq-eqb}
-use Rattle.std.proofs.lemmas.Option.{none-some, same_Some}
-use Rattle.dired_text.specs.Paths.{Names, parent, rest_below}
+use Rattle.std.proofs.lemmas.Bool.{cond-true, cond-false, cases_Bool, and_parts, and_from, or_cases, or_parts, or_left, or_right, not-true, false_from_ne_true, eq-eqb}
+use Rattle.std.proofs.lemmas.Option.{none-some}
+use Rattle.dired_text.specs.Paths.{Names, parent}
 use Rattle.commit_steps.specs.declared.step.Step.{Step}
 use Rattle.commit_steps.specs.declared.step.Step.TheVariants.{Rename}
 use Rattle.commit_steps.specs.Staging.{staged, temporary}
@@ -13,7 +13,7 @@ use Rattle.edit_words.specs.declared.row.Row.{Row}
 use Rattle.edit_words.specs.Edited.{is_fresh}
 use Rattle.edit_words.specs.Place.{IsAbove}
 use Rattle.edit_words.specs.Rows.{row_from, written, is_at, is_elsewhere, is_elsewhere_of, is_same_path, last_name}
-use Rattle.edit_words.specs.Sight.{Sight, is_dir}
+use Rattle.edit_words.specs.Sight.{Sight}
 use Rattle.edit_words.proofs.AboveLemmas.{above_decides}
 use Rattle.edit_words.proofs.SameLemmas.{same_path}
 use Rattle.edit_laws.proofs.ListLemmas.{contains_filter, filter_parts, contains_map, map_parts, any_from}

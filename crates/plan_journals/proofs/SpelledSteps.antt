@@ -1,19 +1,17 @@
 -- A journal can spell what a plan puts aside, the directories that it makes, and the modes that it changes.
-use Rattle.std.proofs.Common.{◌≡◌, ◌≢◌, ◌⊎◌, inl, inr, ℕ, ◌+◌, ◌*◌, ◌<◌, ◌≤◌, ◌^◌, not, Bool, true, false, cond, List, [], ◌∷◌, ◌++◌, map, filter, length, refl, sym, ◌∙◌, ap, subst, arith, Option, Some, None, is_some, IsTrue}
+use Rattle.std.proofs.Common.{◌≡◌, ◌≢◌, ◌⊎◌, inl, inr, ℕ, ◌+◌, ◌≤◌, ◌^◌, not, Bool, true, false, cond, List, [], ◌∷◌, map, length, sym, ◌∙◌, ap, subst, arith, Option, Some, None, is_some}
 use Rattle.std.specs.Prelude.{Contains}
-use Rattle.std.specs.List.{AllByRecursion, flat_map}
-use Rattle.std.proofs.lemmas.Bool.{cond-true, cond-false, cases_Bool, and_parts}
-use Rattle.std.proofs.lemmas.Option.{none-some, same_Some, cond_some}
+use Rattle.std.specs.List.{AllByRecursion}
+use Rattle.std.proofs.lemmas.Bool.{cond-true, cond-false, cases_Bool}
+use Rattle.std.proofs.lemmas.Option.{cond_some}
 use Rattle.std.proofs.lemmas.List.Elements.{Contains-append_cases}
 use Rattle.dired_text.specs.Paths.{Names}
-use Rattle.commit_steps.specs.declared.step.Step.{Step}
-use Rattle.commit_steps.specs.declared.step.Step.TheVariants.{MakeDir, Rename, Mode}
+use Rattle.commit_steps.specs.declared.step.Step.TheVariants.{MakeDir}
 use Rattle.commit_steps.specs.Steps.{IsOutside, IsLawfulStep}
 use Rattle.edit_words.specs.declared.row.Row.{Row}
-use Rattle.edit_words.specs.declared.seen.Seen.{Seen}
-use Rattle.edit_words.specs.Place.{place, IsAbove, ancestors}
+use Rattle.edit_words.specs.Place.{IsAbove, ancestors}
 use Rattle.edit_words.specs.Refusals.{missing_above, victim_at, victim_of}
-use Rattle.edit_words.specs.Rows.{is_elsewhere, is_source, written, route_of}
+use Rattle.edit_words.specs.Rows.{is_elsewhere, written}
 use Rattle.edit_words.specs.Sight.{Sight}
 use Rattle.edit_words.proofs.AboveLemmas.{ancestors_above}
 use Rattle.edit_laws.proofs.ListLemmas.{contains_head, contains_none, contains_cases, contains_tail, filter_parts, flat_parts, map_parts}
@@ -61,13 +59,13 @@ module _ (sight : Sight) (rs : List Row) (set : AreTaken sight rs) where
 
   -- ---- the directories
 
-  module _ (told : IsTold sight) where
+  module _ (told : IsTold sight rs) where
     missing_outside : (r : Row) (p : Names) → Contains rs r → Contains (missing_above sight r) p → IsOutside p
     missing_outside r p c within = by_far (cases_Bool (is_elsewhere r))
       where
         absent : not (is_some (sight.at p)) ≡ true → p ≢ []
         absent none root =
-            let there : is_some (sight.at p) ≡ true = ap (λ (l : Names). is_some (sight.at l)) root ∙ told.root in
+            let there : is_some (sight.at p) ≡ true = ap (λ (l : Names). is_some (sight.at l)) root ∙ told.root r c in
             let both : false ≡ true = sym (ap not there) ∙ none in
             absurd cc
 
@@ -91,11 +89,12 @@ module _ (sight : Sight) (rs : List Row) (set : AreTaken sight rs) where
     mode_spelled m r c is =
         let from = comes_from sight rs r m is in
         let new = set.modes r from.source from.was m.2 c from.at from.shown from.mode in
-        let old : m.1 ≡ from.was.mode = from.old_is in
-        (subst IsOutside (sym from.place_is) (place_outside sight rs set from.source (set.outside r from.source c (inl from.at))),
+        let old : m.1 ≡ from.was.mode = from.old_is in (
+          subst IsOutside (sym from.place_is) (place_outside sight rs set from.source (set.outside r from.source c (inl from.at))),
           told.modes from.source m.1 (new.seen_as ∙ ap (λ (k : ℕ). Some k) (sym old)),
           new.bits,
-          λ same. new.differ (sym old ∙ same))
+          λ same. new.differ (sym old ∙ same),
+        )
 
     pub modes_spelled : (ms : List ModeChange) → AreModes sight rs ms → AllByRecursion IsLawfulStep (map mode_step ms)
     modes_spelled ms are = all_listed IsLawfulStep (map mode_step ms) (λ step c.

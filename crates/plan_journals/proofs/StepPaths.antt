@@ -1,17 +1,16 @@
 -- The paths of steps: outside of the staging directory, or entries in it.
-use Rattle.std.proofs.Common.{◌≡◌, ◌≢◌, ◌⊎◌, inl, inr, ℕ, ◌+◌, ◌<◌, ◌≤◌, ◌^◌, Bool, true, false, cond, List, [], ◌∷◌, ◌++◌, length, refl, sym, ◌∙◌, ap, subst, arith, Option, Some, None}
+use Rattle.std.proofs.Common.{◌≡◌, ◌≢◌, inl, inr, ℕ, ◌<◌, ◌^◌, List, [], ◌∷◌, ◌++◌, refl, sym, ◌∙◌, ap, subst, Option, Some, None}
 use Rattle.std.specs.Prelude.{Contains}
 use Rattle.std.specs.List.{AllByRecursion}
 use Rattle.std.proofs.lemmas.Bool.{cond-true, cond-false, cases_Bool}
 use Rattle.dired_text.specs.Paths.{Names, parent, rest_below}
-use Rattle.commit_steps.specs.declared.step.Step.{Step}
-use Rattle.commit_steps.specs.declared.step.Step.TheVariants.{MakeDir, Rename, Mode}
+use Rattle.commit_steps.specs.declared.step.Step.TheVariants.{Rename}
 use Rattle.commit_steps.specs.Staging.{staging_name, staged, temporary, held, fresh_name}
-use Rattle.commit_steps.specs.Steps.{IsOutside, IsEntryPath, IsStepPath, IsLawfulStep}
+use Rattle.commit_steps.specs.Steps.{IsOutside, IsEntryPath, IsLawfulStep}
 use Rattle.edit_words.specs.declared.row.Row.{Row}
 use Rattle.edit_words.specs.declared.row.Route.{Route}
-use Rattle.edit_words.specs.declared.row.Route.TheVariants.{Stays, Named, Sent}
-use Rattle.edit_words.specs.Place.{routed, place, IsAbove}
+use Rattle.edit_words.specs.declared.row.Route.TheVariants.{Named, Sent}
+use Rattle.edit_words.specs.Place.{routed, place}
 use Rattle.edit_words.specs.Rows.{row_from, route_of, route_by, route_to, is_same_path, last_name}
 use Rattle.edit_words.specs.Sight.{Sight}
 use Rattle.edit_words.proofs.SameLemmas.{same_path}

@@ -1,7 +1,7 @@
 -- What holds of the rows of changes that aren't refused of a sight in which directories stand above what stands.
-use Rattle.std.proofs.Common.{◌≡◌, ◌≢◌, ◌⊎◌, inl, inr, ℕ, ◌<◌, ◌≤◌, ◌==◌, not, ◌&&◌, Bool, true, false, cond, List, [], ◌∷◌, ◌++◌, length, refl, sym, ◌∙◌, ap, subst, arith, Option, Some, None, is_some, IsTrue, eqb-true}
+use Rattle.std.proofs.Common.{◌≡◌, ◌≢◌, ◌⊎◌, inl, inr, ℕ, ◌<◌, ◌≤◌, ◌==◌, not, ◌&&◌, Bool, true, false, List, ◌++◌, length, refl, sym, ◌∙◌, ap, subst, arith, Option, Some, None, is_some, IsTrue, eqb-true}
 use Rattle.std.specs.Prelude.{Contains}
-use Rattle.std.proofs.lemmas.Bool.{cond-true, cond-false, cases_Bool, and_parts, and_from, or_left, or_right, not_from_false}
+use Rattle.std.proofs.lemmas.Bool.{cond-true, cases_Bool, and_parts, and_from}
 use Rattle.std.proofs.lemmas.Option.{none-some, same_Some}
 use Rattle.std.proofs.lemmas.List.Elements.{All-contains}
 use Rattle.dired_text.specs.Paths.{Names, is_below, rest_below}
@@ -23,7 +23,7 @@ use Rattle.edit_words.specs.declared.seen.Seen.TheVariants.{Dir, Link, File}
 use Rattle.edit_words.specs.declared.fault.CheckFault.{CheckFault}
 use Rattle.edit_words.specs.declared.fault.CheckFault.TheVariants.{Stale, TargetIsDirectory}
 use Rattle.edit_words.specs.Place.{IsAbove}
-use Rattle.edit_words.specs.Refusals.{staging as reserved_path, fault_if, first_fault, is_dir_shown, is_link_shown, is_as_shown, is_stale_at, stale, is_staged_at, reserved, two_to_one, mode_clash, parents, parent_not_directory, moved_parent, parent_taken, path_too_long, across, victim_at, victim_of, if_dir, directory_replaced, refusal}
+use Rattle.edit_words.specs.Refusals.{staging as reserved_path, fault_if, first_fault, is_dir_shown, is_link_shown, is_as_shown, is_stale_at, stale, reserved, two_to_one, mode_clash, parents, parent_not_directory, moved_parent, parent_taken, path_too_long, across, victim_at, victim_of, if_dir, directory_replaced, refusal}
 use Rattle.edit_words.specs.Rows.{rows, edit_row, removal_row, creation_row, written, is_elsewhere, is_source}
 use Rattle.edit_words.specs.Sight.{Sight, is_dir}
 use Rattle.edit_words.specs.WellFormed.{AreAsked, IsEdit, IsMover, IsNoRoot, LinesRise, max_changes}

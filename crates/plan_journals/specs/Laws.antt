@@ -1,6 +1,5 @@
 -- Laws: the steps of a plan fit a journal, and a journal can spell them.
-use Rattle.std.specs.Prelude.{◌≡◌, ℕ, ◌+◌, ◌*◌, ◌≤◌, ◌<◌, ◌^◌, List, [], length, Option, Some, None, is_some, IsTrue}
-use Rattle.std.specs.List.{AllByRecursion}
+use Rattle.std.specs.Prelude.{◌≡◌, ℕ, ◌+◌, ◌*◌, ◌≤◌, ◌<◌, ◌^◌, List, [], length, Option, Some, None, is_some, IsTrue, Contains}
 use Rattle.dired_text.specs.Paths.{Names}
 use Rattle.tree_core.specs.declared.changes.Changes.{Changes}
 use Rattle.tree_core.specs.declared.changes.Confirmed.{Confirmed}
@@ -14,10 +13,10 @@ use Rattle.edit_words.specs.Rows.{rows}
 use Rattle.edit_words.specs.Sight.{Sight}
 use Rattle.edit_words.specs.WellFormed.{AreAsked}
 use Rattle.commit_steps.specs.declared.step.Step.{Step}
-use Rattle.commit_steps.specs.Steps.{IsLawfulStep, IsModeBits, all_bytes}
+use Rattle.commit_steps.specs.Steps.{IsModeBits, all_bytes}
 use Rattle.commit_journal.specs.declared.version.Version.TheVariants.{Two}
 use Rattle.commit_journal.specs.Grammar.{max_all_bytes}
-use Rattle.commit_journal.specs.Spelling.{journal_text}
+use Rattle.commit_journal.specs.Spelling.{CanEncode, journal_text}
 use Rattle.plan_moves.specs.Plan.{IsPlan}
 
 -- the most bytes of a journal
@@ -45,13 +44,13 @@ seen_mode (Some (Dir mode)) = Some mode
 seen_mode (Some (Link target)) = None
 seen_mode (Some (File number mode)) = Some mode
 
--- What every tree tells: something stands at the root, and modes have at most the bits 0o7777.
-pub record IsTold (sight : Sight) : Type 0 where
-  pub root : IsTrue (is_some (sight.at []))
+-- What every tree tells where something is changed: something stands at the root, and modes have at most the bits 0o7777.
+pub record IsTold (sight : Sight) (rs : List Row) : Type 0 where
+  pub root : (r : Row) → Contains rs r → IsTrue (is_some (sight.at []))
   pub modes : (p : Names) (mode : ℕ) → seen_mode (sight.at p) ≡ Some mode → IsModeBits mode
 
--- a journal can spell each step of each plan of checked changes, whatever else the tree told
+-- a journal can spell each step of each plan of checked changes, and takes all of them, whatever else the tree told
 abbrev pub PlansCanBeSpelled : Type 0
 PlansCanBeSpelled =
-    (checked : Checked) (steps : List Step) → IsChecked checked → IsTold (found_in checked) → IsPlan (found_in checked) (rows (changes_in checked)) steps
-    → AllByRecursion IsLawfulStep steps
+    (checked : Checked) (steps : List Step) → IsChecked checked → IsTold (found_in checked) (rows (changes_in checked))
+    → IsPlan (found_in checked) (rows (changes_in checked)) steps → CanEncode steps
