@@ -10,3 +10,4 @@ pub mod StepPaths
 pub mod SpelledSteps
 pub mod MovesSpelled
 pub mod Spelled
+pub mod Told

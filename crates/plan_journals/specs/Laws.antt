@@ -3,8 +3,9 @@ use Rattle.std.specs.Prelude.{◌≡◌, ℕ, ◌+◌, ◌*◌, ◌≤◌, ◌<�
 use Rattle.dired_text.specs.Paths.{Names}
 use Rattle.tree_core.specs.declared.changes.Changes.{Changes}
 use Rattle.tree_core.specs.declared.changes.Confirmed.{Confirmed}
+use Rattle.tree_core.specs.FileTree.{FileTree, IsTree}
 use Rattle.edit_check.specs.declared.checked.Checked.{Checked}
-use Rattle.edit_check.specs.StandFor.{IsChecked, changes_in, found_in}
+use Rattle.edit_check.specs.StandFor.{IsChecked, StandsFor, changes_in, found_in}
 use Rattle.edit_words.specs.declared.row.Row.{Row}
 use Rattle.edit_words.specs.declared.seen.Seen.{Seen}
 use Rattle.edit_words.specs.declared.seen.Seen.TheVariants.{Dir, Link, File}
@@ -54,3 +55,7 @@ abbrev pub PlansCanBeSpelled : Type 0
 PlansCanBeSpelled =
     (checked : Checked) (steps : List Step) → IsChecked checked → IsTold (found_in checked) (rows (changes_in checked))
     → IsPlan (found_in checked) (rows (changes_in checked)) steps → CanEncode steps
+
+-- so in each tree that a check stands for
+abbrev pub TreesTell : Type 0
+TreesTell = (checked : Checked) (t : FileTree) → IsChecked checked → IsTree t → StandsFor checked t → IsTold (found_in checked) (rows (changes_in checked))
