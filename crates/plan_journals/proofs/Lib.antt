@@ -1,0 +1,13 @@
+pub mod Totals
+pub mod StagedBytes
+pub mod MoveCosts
+pub mod RowCosts
+pub mod TextBytes
+pub mod PlanCosts
+pub mod Fits
+pub mod Taken
+pub mod StepPaths
+pub mod SpelledSteps
+pub mod MovesSpelled
+pub mod Spelled
+pub mod Told
