@@ -108,8 +108,8 @@ sed 's/^  -rw-r--r--/  -rw-r--r-/' "$work/before" > "$work/eight"
 run 'eight mode letters' 7 $'dired: ../eight, line 4: Line Mode\n' commit ../eight ../after
 sed 's/ a$/ c/' "$work/before" > "$work/after"
 run 'a path that is confirmed by the root' 1 $'dired: usage: list, commit, run, recover or drill\n' commit ../before ../after .
-{ printf 'dired 1\n  .:\n  total 0\n'; yes '' | head -n 199998; } > "$work/many"
-run 'too many lines' 18 $'dired: too large: BufferLines 200001\n' commit ../many ../many
+{ printf 'dired 1\n  .:\n  total 0\n'; yes '' | head -n 399998; } > "$work/many"
+run 'too many lines' 18 $'dired: too large: BufferLines 400001\n' commit ../many ../many
 unchanged 'refusals' "$before"
 
 fresh; mkdir "$work/tree/d"; (cd "$work/tree" && "$program" list d > ../before); sed 's/ a$/ d\/e/' "$work/before" > "$work/after"
