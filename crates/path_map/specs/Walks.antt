@@ -1,9 +1,10 @@
 -- Numbers of paths, and the values that they have.
-use Rattle.std.specs.Prelude.{◌≡◌, ℕ, ◌<◌, List, [], ◌∷◌, length, map, Option, Some, None}
+use Rattle.std.specs.Prelude.{◌≡◌, ℕ, ◌<◌, Bool, true, false, ◌&&◌, List, [], ◌∷◌, length, map, Option, Some, None}
 use Rattle.std.specs.List.{slice_get}
 use Rattle.std.specs.Option.{option_and_then}
 use Rattle.std.specs.Ordering.{nat_cmp}
 use Rattle.std.specs.Cmp.Lexicographic.{slice_cmp}
+use Rattle.std.specs.Str.{bytes_eq}
 use Rattle.std.specs.BTreeMap.{BTreeMap, get}
 use Rattle.dired_text.specs.Paths.{Names}
 use Rattle.path_map.specs.declared.map.PathMap.{PathMap}
@@ -12,6 +13,12 @@ use Rattle.path_map.specs.declared.map.PathMap.{PathMap}
 abbrev pub firsts : Names → List Names
 firsts [] = [] ∷ []
 firsts (n ∷ p) = [] ∷ map (λ (q : Names). n ∷ q) (firsts p)
+
+-- whether a path is above another one
+abbrev pub is_above : Names → Names → Bool
+is_above p [] = false
+is_above [] (n ∷ q) = true
+is_above (m ∷ p) (n ∷ q) = bytes_eq m n && is_above p q
 
 -- what is directly below each number, by name
 abbrev pub Below : Type 0

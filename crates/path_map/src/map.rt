@@ -3,7 +3,7 @@ ghost use Rattle.std.specs.Prelude.{◌≡◌, ◌<◌, ℕ, IfOk, OnOk, Some, N
 ghost use Rattle.std.specs.Option.{option_and_then, option_map};
 ghost use Rattle.std.specs.Ordering.{eq_by_cmp};
 ghost use Rattle.dired_text.specs.Paths.{Names, path_cmp};
-ghost use Rattle.path_map.specs.Walks.{IsLinked, IsPathMap, child as child_of, firsts, value_at, value_of as value_of_number, walk};
+ghost use Rattle.path_map.specs.Walks.{IsLinked, IsPathMap, child as child_of, firsts, is_above, value_at, value_of as value_of_number, walk};
 
 use dired_text::{Memory, Name, Path};
 use std::alloc::Global;
@@ -133,6 +133,25 @@ impl<V: Drop> PathMap<V> {
         ensures linked { OnOk result (IsLinked self.old.below.items self.new.below.items at name.now next) }
     {
         self.below[at].insert(name.copy()?, next)?;
+        Ok(())
+    }
+}
+
+impl<V: Copy + Drop> PathMap<V> {
+    /// Gives each path above this one a value, the root too.
+    ///
+    /// # Errors
+    /// Want of memory.
+    pub fn set_above(&mut self, path: &Path, mark: V) -> Result<(), Memory>
+        requires { IsPathMap self.old }
+        ensures map { OnOk result (IsPathMap self.new) }
+        ensures set { OnOk result ((p : Names) → value_at self.new p ≡ cond (is_above p path.now) (Some mark) (value_at self.old p)) }
+    {
+        let mut at = 0;
+        for name in path.names() {
+            self.values[at] = Some(mark);
+            at = self.enter(at, name)?;
+        }
         Ok(())
     }
 }
