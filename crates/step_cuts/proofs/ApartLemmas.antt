@@ -93,7 +93,7 @@ off_is (x ∷ q) (y ∷ p) = go (off_is q p) (cases_Bool (bytes_eq x y))
         let e : x ≡ y = (bytes_eq-Decides x y).0 same in
         ap (λ (b : Bool). is_none (cond b (rest_below q p) None)) same ∙ later
         ∙ sym (same_test (λ r. not (eq_by_cmp path_cmp (x ∷ q) (y ∷ r))) (λ r. not (eq_by_cmp path_cmp q r)) (firsts p)
-          (λ r. ap (λ (n : List ℕ). not (eq_by_cmp path_cmp (x ∷ q) (n ∷ r))) (sym e) ∙ ap not (same_tails x q r)))
+        (λ r. ap (λ (n : List ℕ). not (eq_by_cmp path_cmp (x ∷ q) (n ∷ r))) (sym e) ∙ ap not (same_tails x q r)))
         ∙ sym (off_below x y q p)
     go later (inr differs) =
         ap (λ (b : Bool). is_none (cond b (rest_below q p) None)) differs

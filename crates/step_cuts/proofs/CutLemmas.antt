@@ -1,5 +1,5 @@
 -- The places at which the groups end, step by step.
-use Rattle.std.proofs.Common.{◌≡◌, ◌<◌, ◌≤◌, ◌+◌, ℕ, zero, suc, true, false, Bool, nat_le, List, [], ◌∷◌, ◌++◌, length, drop, refl, sym, ◌∙◌, ap, subst, arith, append_assoc, length-append, if◌then◌else◌}
+use Rattle.std.proofs.Common.{◌≡◌, ◌<◌, ◌≤◌, ◌+◌, ℕ, zero, suc, true, false, nat_le, List, [], ◌∷◌, ◌++◌, length, drop, refl, sym, ◌∙◌, ap, subst, arith, append_assoc, length-append}
 use Rattle.std.proofs.lemmas.Bool.{cond-true, cond-false, lt-leb}
 use Rattle.std.proofs.lemmas.List.{append-nil, drop_all}
 use Rattle.std.specs.List.{AllByRecursion}
@@ -87,7 +87,7 @@ module _ (rest : List Step) (all : List ℕ) (k : ℕ) (ends : List ℕ) (old ne
           append_assoc ends ((k + 1) ∷ []) (ends_of (k + 1) (grow (s ∷ []) (drop (k + 1) rest)))
           ∙ sym (ap (λ (n : ℕ). ends ++ n ∷ ends_of n (grow (s ∷ []) (drop (k + 1) rest))) so_far.at)
           ∙ sym (ap (λ (gs : List (List Step)). ends ++ ends_of so_far.start gs)
-            (cond-false (all_apart (all_paths (so_far.group ++ s ∷ []))) (grow (so_far.group ++ s ∷ []) (drop (k + 1) rest)) (so_far.group ∷ grow (s ∷ []) (drop (k + 1) rest)) (sym apart ∙ differs)))
+          (cond-false (all_apart (all_paths (so_far.group ++ s ∷ []))) (grow (so_far.group ++ s ∷ []) (drop (k + 1) rest)) (so_far.group ∷ grow (s ∷ []) (drop (k + 1) rest)) (sym apart ∙ differs)))
           ∙ grown;
     }
 

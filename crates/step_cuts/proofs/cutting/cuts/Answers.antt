@@ -1,4 +1,4 @@
-use Rattle.std.proofs.Common.{◌≡◌, ◌<◌, ◌≤◌, IfOk, length, sym, subst, arith}
+use Rattle.std.proofs.Common.{◌≡◌, ◌<◌, ◌≤◌, IfOk, length, sym, subst}
 use Rattle.step_cuts.specs.Cuts.{ends_of}
 use Rattle.step_cuts.proofs.CutLemmas.{groups_few, groups_many}
 use Rattle.step_cuts.proofs.cutting.cuts.Goals as goal

@@ -1,4 +1,4 @@
-use Rattle.std.proofs.Common.{rules, ◌≡◌, Bool, ◌&&◌, is_none, not, List, map, option_map, sym, ◌∙◌, ap₂}
+use Rattle.std.proofs.Common.{rules, ◌≡◌, Bool, ◌&&◌, is_none, not, map, option_map, sym, ◌∙◌}
 use Rattle.std.specs.List.{list_all}
 use Rattle.path_map.specs.Walks.{firsts, is_above, value_at}
 use Rattle.step_cuts.proofs.ApartLemmas.{apart_all, both_of, first_of, none_along, none_at, none_here}

@@ -1,10 +1,8 @@
-use Rattle.std.proofs.Common.{◌≡◌, ◌&&◌, [], ◌∷◌, not, is_none, List, sym, ◌∙◌, ap}
+use Rattle.std.proofs.Common.{◌≡◌, ◌&&◌, [], ◌∷◌, not, is_none, sym, ◌∙◌, ap}
 use Rattle.std.proofs.lemmas.List.Folds.{list_all-append}
-use Rattle.std.specs.List.{list_all}
 use Rattle.std.specs.Ordering.{eq_by_cmp}
-use Rattle.dired_text.specs.Paths.{Names, path_cmp}
+use Rattle.dired_text.specs.Paths.{path_cmp}
 use Rattle.path_map.specs.Walks.{is_above, value_at}
-use Rattle.step_cuts.specs.Named.{Holds}
 use Rattle.step_cuts.proofs.ApartLemmas.{apart_more, both_of, first_of, none_more}
 use Rattle.step_cuts.proofs.named_paths.NamedPaths.name.Goals.{then-self, else-self}
 use Rattle.step_cuts.proofs.named_paths.NamedPaths.name.Goals as goal
