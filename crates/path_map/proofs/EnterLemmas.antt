@@ -1,15 +1,15 @@
 -- A number that is put below another one.
-use Rattle.std.proofs.Common.{◌≡◌, ◌≢◌, ◌⊎◌, inl, inr, ◌<◌, ◌≤◌, ◌+◌, ℕ, zero, suc, true, false, cond, List, [], ◌∷◌, ◌++◌, length, length-append, length-set, set, slice_get, Option, Some, None, option_and_then, eqb, refl, sym, ◌∙◌, ap, subst, arith}
-use Rattle.std.proofs.lemmas.Bool.{cases_Bool, false≢true}
+use Rattle.std.proofs.Common.{◌≡◌, ◌≢◌, ◌⊎◌, inl, inr, ◌<◌, ◌+◌, ℕ, zero, suc, true, false, cond, List, [], ◌∷◌, ◌++◌, length, length-set, set, slice_get, Option, Some, None, option_and_then, eqb, refl, sym, ◌∙◌, ap, arith}
+use Rattle.std.proofs.lemmas.Bool.{cases_Bool}
 use Rattle.std.proofs.lemmas.Bool.Decides.{eqb_tells}
-use Rattle.std.proofs.lemmas.Option.{same_Some, none-some, slice_get_past, slice_get_within}
+use Rattle.std.proofs.lemmas.Option.{same_Some, none-some, slice_get_past}
 use Rattle.std.specs.BTreeMap.{BTreeMap, get}
 use Rattle.std.specs.Ordering.{is_eq, nat_cmp}
 use Rattle.std.specs.Cmp.Lexicographic.{slice_cmp}
 use Rattle.dired_text.specs.Paths.{Names}
 use Rattle.path_map.specs.Walks.{Below, IsBelow, IsLinked, child, value_of, walk}
 use Rattle.path_map.proofs.ListLemmas.{got_set, got_beside, name_itself, same_edge, same_name}
-use Rattle.path_map.proofs.WalkLemmas.{step, stepped, walk_made}
+use Rattle.path_map.proofs.WalkLemmas.{step, stepped}
 
 -- a map with a name more
 pub entry_linked : (below : Below) (at next : ℕ) (name : List ℕ) (old new : BTreeMap (List ℕ) ℕ) → at < length below → slice_get below at ≡ Some old

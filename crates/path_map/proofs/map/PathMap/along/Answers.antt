@@ -1,4 +1,4 @@
-use Rattle.std.proofs.Common.{rules, ◌≡◌, ◌<◌, ◌+◌, ◌++◌, [], ◌∷◌, ℕ, List, Option, Some, get_or, length, map, option_map, option_and_then, take, ◌∙◌, sym, ap}
+use Rattle.std.proofs.Common.{rules, ◌≡◌, ◌<◌, ◌+◌, ◌++◌, [], ◌∷◌, ℕ, List, get_or, length, map, option_map, option_and_then, take, ◌∙◌, sym, ap}
 use Rattle.std.proofs.lemmas.List.{map-append, take_more}
 use Rattle.dired_text.specs.Paths.{Names}
 use Rattle.path_map.specs.Walks.{child, firsts, value_at, value_of, walk}

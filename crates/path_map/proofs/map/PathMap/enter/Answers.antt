@@ -1,7 +1,5 @@
-use Rattle.std.proofs.Common.{rules, ◌≡◌, ◌<◌, ◌+◌, ℕ, List, [], ◌∷◌, ◌++◌, Some, None, length, length-append, option_and_then, ◌∙◌, sym, ap, subst, arith, nat_cmp}
-use Rattle.std.specs.BTreeMap.{get}
-use Rattle.std.specs.Cmp.Lexicographic.{slice_cmp}
-use Rattle.path_map.specs.Walks.{IsPathMap, child, value_of, walk}
+use Rattle.std.proofs.Common.{rules, ◌≡◌, ◌<◌, ◌+◌, [], ◌∷◌, ◌++◌, Some, None, length, length-append, option_and_then, ◌∙◌, ap, arith}
+use Rattle.path_map.specs.Walks.{child, value_of, walk}
 use Rattle.path_map.proofs.EnterLemmas.{IsEntered, below_entered, child_beside, value_kept, walk_kept}
 use Rattle.path_map.proofs.map.PathMap.enter.Goals as goal
 

@@ -1,7 +1,5 @@
-use Rattle.std.proofs.Common.{rules, ◌≡◌, ◌<◌, ◌+◌, ℕ, List, ◌∷◌, Option, Some, None, drop, get_or, length, option_and_then, refl, ◌∙◌, sym, ap}
-use Rattle.std.proofs.lemmas.List.{drop_more}
-use Rattle.dired_text.specs.Paths.{Names}
-use Rattle.path_map.specs.Walks.{Below, child, walk}
+use Rattle.std.proofs.Common.{rules, ◌≡◌, ◌<◌, get_or, length, option_and_then}
+use Rattle.path_map.specs.Walks.{child}
 use Rattle.path_map.proofs.WalkLemmas.{walk_on}
 use Rattle.path_map.proofs.map.PathMap.get.Goals as goal
 

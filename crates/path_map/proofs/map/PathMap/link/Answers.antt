@@ -1,4 +1,4 @@
-use Rattle.std.proofs.Common.{rules, ◌≡◌, ◌<◌, ℕ, List, cond, Some, length, slice_get, get_or, ◌∙◌, sym, ap, subst, is_eq, nat_cmp}
+use Rattle.std.proofs.Common.{rules, ◌≡◌, ◌<◌, ℕ, List, cond, Some, length, slice_get, ◌∙◌, sym, ap, subst, is_eq, nat_cmp}
 use Rattle.std.proofs.lemmas.Option.{slice_get-get_or}
 use Rattle.std.specs.BTreeMap.{get}
 use Rattle.std.specs.Cmp.Lexicographic.{slice_cmp}

@@ -1,7 +1,7 @@
-use Rattle.std.proofs.Common.{rules, ◌≡◌, ◌<◌, ◌≤◌, ◌+◌, ℕ, List, Some, arith, cond, get_or, length, option_and_then, take, take_all, ◌∙◌, sym, ap}
+use Rattle.std.proofs.Common.{rules, ◌≡◌, ◌<◌, ◌≤◌, Some, arith, cond, get_or, length, take, take_all, ◌∙◌, sym, ap}
 use Rattle.std.specs.Ordering.{eq_by_cmp}
 use Rattle.dired_text.specs.Paths.{path_cmp}
-use Rattle.path_map.specs.Walks.{child, value_at, walk}
+use Rattle.path_map.specs.Walks.{walk}
 use Rattle.path_map.proofs.WalkLemmas.{value_put, walk_next}
 use Rattle.path_map.proofs.map.PathMap.set.Goals as goal
 
