@@ -1,7 +1,7 @@
 -- The places at which the groups end, step by step.
 use Rattle.std.proofs.Common.{◌≡◌, ◌<◌, ◌≤◌, ◌+◌, ℕ, zero, suc, true, false, nat_le, List, [], ◌∷◌, ◌++◌, length, drop, refl, sym, ◌∙◌, ap, subst, arith, append_assoc, length-append}
 use Rattle.std.proofs.lemmas.Bool.{cond-true, cond-false, lt-leb}
-use Rattle.std.proofs.lemmas.List.{append-nil, drop_all}
+use Rattle.std.proofs.lemmas.List.{append-nil}
 use Rattle.std.specs.List.{AllByRecursion}
 use Rattle.commit_steps.specs.declared.step.Step.{Step}
 use Rattle.step_trees.specs.Groups.{all_apart, all_paths, paths_of, grow, groups, longest, singly, joined, AreGroups}
@@ -25,9 +25,6 @@ place_more steps k ends less =
     let next : suc k ≡ k + 1 = omega arith in
     let is : drop k steps ≡ one.0 ∷ drop (k + 1) steps = one.1 ∙ ap (λ (n : ℕ). one.0 ∷ drop n steps) next in
     append_assoc ends ((k + 1) ∷ []) (ends_of (k + 1) (singly (drop (k + 1) steps))) ∙ sym (ap (λ (l : List Step). ends ++ ends_of k (singly l)) is)
-
-pub place_last : (steps : List Step) (k : ℕ) (ends all : List ℕ) → length steps ≤ k → ends ++ ends_of k (singly (drop k steps)) ≡ all → ends ≡ all
-place_last steps k ends all past is = sym (append-nil ends) ∙ sym (ap (λ (l : List Step). ends ++ ends_of k (singly l)) (drop_all k steps past)) ∙ is
 
 -- ---- which groups they are
 
@@ -90,14 +87,6 @@ module _ (rest : List Step) (all : List ℕ) (k : ℕ) (ends : List ℕ) (old ne
           (cond-false (all_apart (all_paths (so_far.group ++ s ∷ []))) (grow (so_far.group ++ s ∷ []) (drop (k + 1) rest)) (so_far.group ∷ grow (s ∷ []) (drop (k + 1) rest)) (sym apart ∙ differs)))
           ∙ grown;
     }
-
-pub last_group : (rest : List Step) (all : List ℕ) (k : ℕ) (ends : List ℕ) (paths : NamedPaths) → k ≡ length rest → SoFar rest all k ends paths → ends ++ (length rest + 1) ∷ [] ≡ all
-last_group rest all k ends paths past so_far =
-    let a : so_far.start + length so_far.group ≡ k + 1 = so_far.at in
-    let n : length rest + 1 ≡ so_far.start + length so_far.group = omega (arith, a, past) in
-    ap (λ (n : ℕ). ends ++ n ∷ []) n
-    ∙ sym (ap (λ (l : List Step). ends ++ ends_of so_far.start (grow so_far.group l)) (drop_all k rest (omega (arith, past))))
-    ∙ so_far.cut
 
 -- ---- laws
 
