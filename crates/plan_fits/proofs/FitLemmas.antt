@@ -1,19 +1,19 @@
 -- A plan of changes fits a commit.
-use Rattle.std.proofs.Common.{◌≡◌, ℕ, Bool, true, false, cond, filter, ◌+◌, ◌*◌, ◌<◌, ◌≤◌, ◌^◌, List, [], ◌∷◌, ◌++◌, map, length, take, refl, sym, ◌∙◌, ap, subst, arith, append_assoc, Some, None}
+use Rattle.std.proofs.Common.{◌≡◌, ℕ, Bool, true, false, cond, filter, ◌+◌, ◌<◌, ◌≤◌, ◌^◌, List, [], ◌∷◌, ◌++◌, map, length, sym, ◌∙◌, ap, subst, arith, append_assoc}
 use Rattle.std.specs.List.{AllByRecursion}
 use Rattle.std.proofs.lemmas.List.{length-map, take_all}
 use Rattle.std.proofs.lemmas.Slice.Zip.{AllZip-long}
 use Rattle.dired_text.specs.Paths.{Names}
 use Rattle.commit_steps.specs.declared.step.Step.{Step}
 use Rattle.commit_steps.specs.declared.step.Step.TheVariants.{MakeDir}
-use Rattle.commit_steps.specs.Staging.{staging, staged, held}
+use Rattle.commit_steps.specs.Staging.{staged, held}
 use Rattle.commit_states.specs.Calls.{AreLawfulFresh, Cleans, held_items}
 use Rattle.commit_states.specs.Fits.{Fits, IsWritten}
 use Rattle.commit_states.specs.Reads.{AreRead}
 use Rattle.commit_states.proofs.ReadLemmas.{held_suffice}
 use Rattle.tree_core.specs.declared.changes.Changes.{Changes}
 use Rattle.tree_core.specs.declared.node.Node.{Node}
-use Rattle.tree_core.specs.FileTree.{FileTree, IsFile, Stands}
+use Rattle.tree_core.specs.FileTree.{FileTree, IsAbsent, Stands}
 use Rattle.edit_words.specs.declared.row.Row.{Row}
 use Rattle.edit_words.specs.Edited.{asked_fresh, edited, is_fresh, AreMadeFor, IsMadeFor}
 use Rattle.edit_words.specs.Rows.{rows}
@@ -25,7 +25,7 @@ use Rattle.plan_ends.proofs.Parts.{moves_on, plan_is_led}
 use Rattle.plan_ends.proofs.RunLemmas.{after-append, run_ends}
 use Rattle.plan_ends.proofs.Starts.{starts_well}
 use Rattle.plan_fits.specs.HeldKinds.{held_kinds, held_of}
-use Rattle.plan_fits.specs.Laws.{AreBelow, HasText, PlansFit, made_for}
+use Rattle.plan_fits.specs.Laws.{AreBelow, HasText, made_for}
 use Rattle.plan_fits.proofs.KeptLemmas.{StandAs, all_read, kept_all, only_held, stand_behind, stood_before}
 use Rattle.plan_fits.proofs.KindLemmas.{kinds_stand, paths_are}
 use Rattle.plan_fits.proofs.MadeLemmas.{asked_can_be_made, made_as_asked}
@@ -34,6 +34,7 @@ use Rattle.plan_laws.proofs.WellLemmas.{well_at_first}
 use Rattle.plan_laws.proofs.Held.{few_held}
 use Rattle.plan_laws.proofs.HeldOnce.{AreOnce, held_once}
 use Rattle.plan_laws.proofs.Setting.{ArePlannedRows, planned_rows}
+use Rattle.plan_laws.proofs.StagedNames.{one_staging}
 use Rattle.plan_moves.specs.Moves.{fresh_spots}
 use Rattle.plan_moves.specs.Plan.{IsPlan, held_paths, holds, mode_step}
 use Rattle.plan_moves.specs.SoFar.{IsSoFar}
@@ -113,7 +114,7 @@ module _ (t : FileTree) (changes : Changes) (steps : List Step) (next : ℕ) (pl
   kinds = held_kinds (sight_of t) (rows changes)
 
   many : length kinds ≡ length (held_paths (sight_of t) (rows changes))
-  many = sym (length-map (λ (x : Names × Bool). x.0) kinds) ∙ ap length (paths_are (sight_of t) (rows changes))
+  many = sym (length-map kinds (λ (x : Names × Bool). x.0)) ∙ ap length (paths_are (sight_of t) (rows changes))
 
   stand : StandAs moved 0 kinds
   stand = kept_all t (rows changes) set made none_waits.spots moved so_far [] kinds (sym (paths_are (sight_of t) (rows changes)))
@@ -142,7 +143,7 @@ module _ (t : FileTree) (changes : Changes) (steps : List Step) (next : ℕ) (pl
 
   pub plan_fits : (journal : List ℕ) → length steps < 2 ^ 32 → IsWritten steps journal → Fits steps (asked_fresh changes) journal (held_of (sight_of t) (rows changes)) (edited t (rows changes) made) t next
   plan_fits journal few written = record {
-    absent = planned.well_formed.unstaged;
+    absent = subst (IsAbsent t) (sym one_staging) planned.well_formed.unstaged;
     lawful = lawful;
     few_fresh = few_asked;
     few_steps = few;

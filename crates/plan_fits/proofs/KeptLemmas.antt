@@ -1,14 +1,12 @@
 -- What is put aside still stands when all steps are done, under its name and of its kind, and nothing else in the staging directory.
-use Rattle.std.proofs.Common.{◌≡◌, ◌≢◌, ◌⊎◌, inl, inr, ℕ, ◌+◌, ◌<◌, ◌≤◌, ◌^◌, Bool, true, false, cond, List, [], ◌∷◌, ◌++◌, map, length, refl, sym, ◌∙◌, ap, subst, arith, append_assoc, length-append, Option, Some, None, is_some, IsTrue}
+use Rattle.std.proofs.Common.{◌≡◌, ◌≢◌, ◌⊎◌, inl, inr, ℕ, ◌+◌, ◌<◌, ◌≤◌, ◌^◌, ◌==◌, Bool, true, false, cond, List, [], ◌∷◌, ◌++◌, map, length, refl, sym, ◌∙◌, ap, subst, arith, append_assoc, length-append, Option, Some, None, is_some, IsTrue}
 use Rattle.std.specs.Prelude.{Contains}
 use Rattle.std.specs.FinMap.{get, find}
 use Rattle.std.specs.List.{AllByRecursion}
-use Rattle.std.proofs.lemmas.Bool.{cond-true, cond-false}
-use Rattle.std.proofs.lemmas.Option.{none-some, same_Some}
+use Rattle.std.proofs.lemmas.Bool.{cases_Bool, cond-true, cond-false, eqb-true, eqb-false}
 use Rattle.dired_text.specs.Paths.{Names, path_cmp}
 use Rattle.commit_steps.specs.Staging.{staging, staged, held}
-use Rattle.commit_states.specs.declared.held.Held.{Held}
-use Rattle.commit_states.specs.Calls.{Items, held_items}
+use Rattle.commit_states.specs.Calls.{held_items}
 use Rattle.commit_states.specs.Reads.{AreRead, AreOnce as NamesAreOnce, IsNamed}
 use Rattle.tree_core.specs.declared.node.Node.{Node}
 use Rattle.tree_core.specs.declared.node.Node.TheVariants.{Dir, Link, File}
@@ -26,7 +24,7 @@ use Rattle.plan_ends.proofs.EndPlaces.{not_staged_place, not_staged_added, place
 use Rattle.plan_ends.proofs.ModeSteps.{changed, changed_all, after_modes, after_modes-none, meets, with_mode}
 use Rattle.plan_fits.proofs.KindLemmas.{IsOfKind}
 use Rattle.plan_fits.specs.HeldKinds.{numbered}
-use Rattle.plan_laws.proofs.Held.{HeldAt, few_held, held_number}
+use Rattle.plan_laws.proofs.Held.{HeldAt, held_number}
 use Rattle.plan_laws.proofs.HeldOnce.{AreOnce}
 use Rattle.plan_laws.proofs.Setting.{ArePlannedRows}
 use Rattle.plan_laws.proofs.StagedNames.{held_apart, staged_name}
@@ -60,13 +58,18 @@ abbrev pub StandAs : FileTree → ℕ → List (Names × Bool) → Type 0
 StandAs t n [] = Unit {0}
 StandAs t n (x ∷ xs) = IsOfKind t (staged (held n), x.1) × StandAs t (n + 1) xs
 
+first_or : (n k : ℕ) → n ≤ k → (n ≡ k) ⊎ (n + 1 ≤ k)
+first_or n k least = elim (cases_Bool (n == k)) [
+  | inl same ↦ inl (eqb-true n k same)
+  | inr other ↦ inr (let apart : n ≢ k = eqb-false n k other in omega arith)
+]
+
 is_named : (n : ℕ) (xs : List (Names × Bool)) (k : ℕ) (name : List ℕ) → n ≤ k → k < n + length xs → name ≡ held k → IsNamed name (held_items (numbered n xs))
 is_named n [] k name least most is = absurd (omega arith)
-is_named n (x ∷ xs) k name least most is = by_place (omega arith)
-  where
-    by_place : (n ≡ k) ⊎ (n + 1 ≤ k) → IsNamed name (held_items (numbered n (x ∷ xs)))
-    by_place (inl here) = inl (is ∙ ap held (sym here))
-    by_place (inr later) = inr (is_named (n + 1) xs k name later (let l : length (x ∷ xs) ≡ length xs + 1 = omega arith in omega arith) is)
+is_named n (x ∷ xs) k name least most is = elim (first_or n k least) [
+  | inl here ↦ inl (is ∙ ap held (sym here))
+  | inr later ↦ inr (is_named (n + 1) xs k name later (let l : length (x ∷ xs) ≡ length xs + 1 = omega arith in omega arith) is)
+]
 
 no_name : (n k : ℕ) (xs : List (Names × Bool)) → k < n → n + length xs ≤ 2 ^ 32 → IsNamed (held k) (held_items (numbered n xs)) → ⊥
 no_name n k [] less few named = named
@@ -120,10 +123,10 @@ module _ (t : FileTree) (rs : List Row) (set : ArePlannedRows t rs) (made : List
   kept_all front (x ∷ xs) same once kinds =
       let k = kinds x (contains_head x xs) in
       let at : held_at 0 (held_paths (sight_of t) rs) x.0 ≡ Some (staged (held (length front))) =
-          ap (λ (l : List Names). held_at 0 l x.0) same ∙ (named_at 0 front x.0 (map path_of xs) once ∙ ap (λ (n : ℕ). Some (staged (held n))) (omega arith)) in
+      ap (λ (l : List Names). held_at 0 l x.0) same ∙ (named_at 0 front x.0 (map path_of xs) once ∙ ap (λ (n : ℕ). Some (staged (held n))) (omega arith)) in
       let longer : (front ++ x.0 ∷ []) ++ map path_of xs ≡ front ++ x.0 ∷ map path_of xs = append_assoc front (x.0 ∷ []) (map path_of xs) in
       let more : StandAs now (length (front ++ x.0 ∷ [])) xs =
-          kept_all (front ++ x.0 ∷ []) xs (same ∙ sym longer) (subst AreOnce (sym longer) once) (λ y c. kinds y (contains_tail x y xs c)) in
+      kept_all (front ++ x.0 ∷ []) xs (same ∙ sym longer) (subst AreOnce (sym longer) once) (λ y c. kinds y (contains_tail x y xs c)) in
       ((k.0, kept_one x.0 (length front) k.0 at k.1, k.2), subst (λ (n : ℕ). StandAs now n xs) (length-append front (x.0 ∷ [])) more)
 
   came_held : (name : List ℕ) (node : Node) → Came (λ p. true) (place (route_so_far t rs spots [])) same_node t (staged name) node → (p : Names) × HeldAt 0 (held_paths (sight_of t) rs) p (staged name)

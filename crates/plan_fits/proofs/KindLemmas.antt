@@ -4,7 +4,7 @@ use Rattle.std.specs.Prelude.{Contains}
 use Rattle.std.specs.FinMap.{get}
 use Rattle.std.specs.List.{flat_map}
 use Rattle.std.proofs.lemmas.Bool.{cases_Bool, cond-true, cond-false}
-use Rattle.std.proofs.lemmas.Option.{none-some, same_Some}
+use Rattle.std.proofs.lemmas.Option.{none-some}
 use Rattle.std.proofs.lemmas.List.Elements.{Contains-append_cases}
 use Rattle.dired_text.specs.Paths.{Names}
 use Rattle.tree_core.specs.declared.node.Node.{Node}
@@ -85,22 +85,22 @@ IsOfKind t x = (node : Node) × (get t x.0 ≡ Some node) × (is_dir_node (Some 
 
 module _ (t : FileTree) (changes : Changes) (set : ArePlannedRows t (rows changes)) where
   victim_kind : (r : Row) (x : Names × Bool) → Contains (rows changes) r → victim_of (sight_of t) (rows changes) r ≡ Some x.0 → x.1 ≡ false → IsOfKind t x
-  victim_kind r x listed is kind =
+  victim_kind r x has is kind =
       let v = replaced t (rows changes) r x.0 is in
-      by_node v.1 (λ dir. set.fine.replaceable r x.0 listed v dir) (get t x.0) refl
+      by_node v.1 (λ dir. set.fine.replaceable r x.0 has v dir) (get t x.0) refl
     where
       no_dir : (b : Bool) → (b ≡ true → ⊥) → b ≡ false
-      no_dir false no = refl
-      no_dir true no = absurd (no refl)
+      no_dir false never = refl
+      no_dir true never = absurd (never refl)
 
       by_node : Stands t x.0 → (IsDir t x.0 → ⊥) → (o : Option Node) → get t x.0 ≡ o → IsOfKind t x
-      by_node stands no None e = let no_way : false ≡ true = sym (ap is_some e) ∙ stands in absurd cc
-      by_node stands no (Some node) e = (node, e, no_dir (is_dir_node (Some node)) (λ dir. no (ap is_dir_node e ∙ dir)) ∙ sym kind)
+      by_node there never None e = let no_way : false ≡ true = sym (ap is_some e) ∙ there in absurd cc
+      by_node there never (Some node) e = (node, e, no_dir (is_dir_node (Some node)) (λ dir. never (ap is_dir_node e ∙ dir)) ∙ sym kind)
 
   given_kind : (r : Row) (x : Names × Bool) → Contains (rows changes) r → r.source ≡ Some x.0 → x.1 ≡ shows_dir r.was → IsOfKind t x
-  given_kind r x listed source kind =
-      let was = was_shown changes r x.0 listed source in
-      let n = set.fine.shown r listed x.0 was.0 source was.1 in
+  given_kind r x has source kind =
+      let was = was_shown changes r x.0 has source in
+      let n = set.fine.shown r has x.0 was.0 source was.1 in
       (n.0, n.1, kind_shown was.0 n.0 n.2 ∙ sym (kind ∙ ap shows_dir was.1))
 
   pub kinds_stand : (x : Names × Bool) → Contains (held_kinds (sight_of t) (rows changes)) x → IsOfKind t x
