@@ -1,0 +1,4 @@
+pub mod MadeLemmas
+pub mod KindLemmas
+pub mod KeptLemmas
+pub mod FitLemmas

@@ -1,0 +1,2 @@
+pub mod HeldKinds
+pub mod Laws
