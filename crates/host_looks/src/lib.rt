@@ -13,8 +13,6 @@ mod naming;
 mod numbering;
 mod owners;
 mod reading;
-#[cfg(test)]
-mod tests;
 
 pub use children::{sync_host, sync_root, sync_system};
 pub use describing::{Known, is_target, meta_at};

@@ -16,8 +16,6 @@ mod replay;
 mod schedule;
 mod slots;
 mod store;
-#[cfg(test)]
-mod tests;
 
 pub use build::{BuildFault, Entry};
 pub use mem::MemTree;

@@ -7,8 +7,6 @@ mod host_shelf;
 mod host_sink;
 mod host_tree;
 mod syncing;
-#[cfg(test)]
-mod tests;
 mod touched;
 mod work;
 
