@@ -21,3 +21,4 @@ pub mod ReadLemmas
 pub mod FreshLemmas
 pub mod ReadNameLemmas
 pub mod RecoverLemmas
+pub mod TextLemmas

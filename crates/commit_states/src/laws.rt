@@ -13,6 +13,7 @@ ghost use Rattle.commit_states.specs.Laws.{
   UndoneGoBack,
   UnplannedGoBack,
   UnstagedGoBack,
+  WrittenAreInterrupted,
 };
 ghost use Rattle.commit_states.specs.Phases.{JournalsTell, RowsExclude};
 ghost use Rattle.commit_states.specs.Reads.{
@@ -48,6 +49,12 @@ pub fn failed_calls_leave_rows()
     ensures staging { FailedStagingsStop }
     ensures steps { FailedStepsHalt }
     ensures seal { FailedSealsGoForward }
+{}
+
+/// Where a journal stands in a tree that a commit may leave, it is of version 2, as the commit wrote it. Such a tree is an
+/// interrupted tree as recovery knows them, whose journal may be of either version.
+pub fn written_are_interrupted()
+    ensures { WrittenAreInterrupted }
 {}
 
 /// The way back, and recovery, where no journal has its name: the names are removed and then the directory, if it stands. A crash at
