@@ -1,10 +1,14 @@
 -- The seal and the cleaning, where all steps are done.
-use Rattle.std.proofs.Common.{◌≡◌, inl, ℕ, List, [], ◌∷◌, ◌++◌, length, take, refl, sym, ◌∙◌, subst, arith}
+use Rattle.std.proofs.Common.{◌≡◌, ◌⊎◌, inl, inr, ⊎_elim, ap, is_some, ℕ, List, [], ◌∷◌, ◌++◌, length, take, refl, sym, ◌∙◌, subst, arith}
 use Rattle.tree_core.specs.declared.node.Node.{Node}
 use Rattle.tree_core.specs.declared.node.Change.TheVariants as call
-use Rattle.tree_core.specs.FileTree.{FileTree, CanDo, renamed}
+use Rattle.tree_core.specs.FileTree.{FileTree, Stands, CanDo, renamed}
 use Rattle.tree_core.specs.History.{History, Then, IsSound, current_tree, IsDurable, LeavesOnly}
-use Rattle.tree_core.specs.Runs.{then_all}
+use Rattle.tree_core.specs.Runs.{then_all, FailedIn}
+use Rattle.tree_core.specs.declared.node.CallName.{CallName}
+use Rattle.commit_states.specs.Stops.{Halted}
+use Rattle.step_trees.specs.Groups.{groups, to_next_cut}
+use Rattle.step_trees.proofs.ChoiceLemmas.{none_done}
 use Rattle.tree_core.proofs.Moments.{durable-sync, Pending, pending-durable}
 use Rattle.tree_core.proofs.Runs.{IsSafe, closed_synced, safe_append, safe_all, safe_can, sound_all, single_synced, then_all-append}
 use Rattle.commit_states.proofs.CloseLemmas.{can_seal, sealed_clearing, Clearing, Cleared, clear_all, closed_last, all_gone}
@@ -44,7 +48,7 @@ module _ (Text : List ℕ → Type 0) (steps : List Step) (old new : FileTree) (
   abbrev a : FileTree
   a = after (take (length steps) steps) (start old nodes)
 
-  clearing : Clearing sealed (last_marker steps) own-sealed (own-last_marker steps) sealed_plan (plan-last_marker steps) (sealed-last_marker steps) Text steps new IsHeld less_held a u (held_items hs)
+  pub clearing : Clearing sealed (last_marker steps) own-sealed (own-last_marker steps) sealed_plan (plan-last_marker steps) (sealed-last_marker steps) Text steps new IsHeld less_held a u (held_items hs)
   clearing = sealed_clearing sealed (last_marker steps) own-sealed (own-last_marker steps) sealed_plan (plan-last_marker steps) (sealed-last_marker steps) Text steps new IsHeld less_held carry_held old new nodes leads sealed_names (length steps) (ends_at steps old new nodes leads).is (ends_at steps old new nodes leads).only (current_tree h2) sound.tree stands2 a (held_items hs) refl cleans
 
   safe3 : IsSafe o P h2 seal_calls
@@ -102,3 +106,30 @@ module _ (Text : List ℕ → Type 0) (steps : List Step) (old new : FileTree) (
   pub done_finish : (current_tree (then_all h2 (seal_calls ++ cleaning_calls hs (length steps))) ≡ new) × IsDurable (then_all h2 (seal_calls ++ cleaning_calls hs (length steps)))
   done_finish = done_finish_as Text steps old new nodes leads hs cleans (IsInterruptedBy Text steps old new nodes) (λ t s. forward_at Text steps old new nodes leads (length steps) t (omega arith) s)
       (sealed_gives Text steps old new nodes leads) (last_gives Text steps old new nodes leads) o h2 r.moments r.durable r.sound r.stands
+
+  -- behind its first call `done` stands
+  pub sealed_stands : Stands (renamed (current_tree h2) (staged plan) (staged sealed)) (staged sealed)
+  sealed_stands = ap is_some (clearing Text steps old new nodes leads hs cleans (IsInterruptedBy Text steps old new nodes) (λ t s. forward_at Text steps old new nodes leads (length steps) t (omega arith) s)
+      (sealed_gives Text steps old new nodes leads) (last_gives Text steps old new nodes leads) o h2 r.moments r.durable r.sound r.stands).row.journal.stands
+
+  -- The seal failed: `done` stands, or all steps are done and `plan` stands.
+  pub seal_halted : (last : History) (before : FileTree) (first : CallName) → FailedIn seal_calls h2 last before first
+      → Stands (current_tree last) (staged sealed) ⊎ ((h : Halted Text steps old new nodes o last) × (h.m ≡ length steps))
+  seal_halted last before first (inl f) = ⊎_elim
+      (λ is. inr (subst (λ (x : History). (h : Halted Text steps old new nodes o x) × (h.m ≡ length steps)) (sym is) (
+      record {
+        m = length steps;
+        u = after (take (length steps) steps) (start old nodes);
+        le = omega arith;
+        comes = none_done (to_next_cut (length steps) (groups steps)) (after (take (length steps) steps) (start old nodes));
+        stands = r.stands;
+        moments = r.moments;
+        sound = r.sound;
+      },
+      refl,
+      )))
+      (λ is. inl (subst (λ (x : History). Stands (current_tree x) (staged sealed)) (sym is) sealed_stands)) f.fate
+  seal_halted last before first (inr (inl f)) = ⊎_elim
+      (λ is. inl (subst (λ (x : History). Stands (current_tree x) (staged sealed)) (sym is) sealed_stands))
+      (λ is. inl (subst (λ (x : History). Stands (current_tree x) (staged sealed)) (sym is) sealed_stands)) f.fate
+  seal_halted last before first (inr (inr nothing)) = absurd nothing

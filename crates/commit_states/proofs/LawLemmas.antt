@@ -1,33 +1,34 @@
 -- The laws of safe lists of calls, put together.
-use Rattle.std.proofs.Common.{◌≡◌, ◌⊎◌, inl, inr, ⊎_elim, ℕ, ◌+◌, ◌<◌, ◌^◌, List, [], ◌∷◌, ◌++◌, length, take, ◌∙◌}
+use Rattle.std.proofs.Common.{◌≡◌, ◌⊎◌, inl, inr, ⊎_elim, ℕ, ◌+◌, ◌<◌, ◌^◌, List, [], ◌∷◌, ◌++◌, length, take, ◌∙◌, subst, arith}
 use Rattle.std.specs.List.{AllByRecursion}
 use Rattle.tree_core.specs.declared.changes.Fresh.{Fresh}
 use Rattle.tree_core.specs.declared.node.Node.{Node}
 use Rattle.tree_core.specs.declared.node.Change.{Change}
 use Rattle.tree_core.specs.declared.node.Change.TheVariants as call
 use Rattle.tree_core.specs.declared.node.CallName.{CallName}
-use Rattle.tree_core.specs.FileTree.{FileTree, IsTree, IsAbsent}
+use Rattle.tree_core.specs.FileTree.{FileTree, IsTree, IsAbsent, Stands}
 use Rattle.tree_core.specs.History.{History, Then, IsSound, current_tree, next_number, IsCrashState, IsDurable}
 use Rattle.tree_core.specs.Runs.{then_all, FailedIn}
 use Rattle.tree_core.proofs.Runs.{IsSafe, closed_synced, safe_all, safe_can, safe_failed}
 use Rattle.tree_core.proofs.Moments.{Pending, durable-sync}
 use Rattle.step_trees.proofs.RemovalLemmas.{no_dir}
 use Rattle.commit_steps.specs.declared.step.Step.{Step}
-use Rattle.commit_steps.specs.Staging.{staging, sealed, undone}
+use Rattle.commit_steps.specs.Staging.{staging, staged, sealed, undone}
 use Rattle.commit_steps.specs.Steps.{HasPaths}
 use Rattle.step_trees.specs.Steps.{after}
-use Rattle.step_trees.specs.Groups.{groups, to_next_cut, from_last_cut, left_of, taken_of}
+use Rattle.step_trees.specs.Groups.{groups, joined, to_next_cut, from_last_cut, left_of, taken_of}
 use Rattle.step_trees.specs.Leads.{start, Leads}
 use Rattle.step_trees.proofs.LeadLemmas.{Led, led}
-use Rattle.step_trees.proofs.PlaceLemmas.{all_remain}
+use Rattle.step_trees.proofs.PlaceLemmas.{Remains, all_remain}
 use Rattle.commit_states.specs.declared.held.Held.{Held}
 use Rattle.commit_states.specs.Interrupted.{StandsAs, IsWritten, AreJournals, IsInterruptedBy, nothing_staged, no_journal, GoesForward}
-use Rattle.commit_states.specs.Calls.{fresh_nodes, commit_calls, staging_calls, unstage_calls, Unstages, Items, ClearsItems, close_calls, calls_from, resume_calls, seal_calls, cleaning_calls, Cleans, turn_calls, home_calls, end_calls, fresh_items, CleansItems}
+use Rattle.commit_states.specs.Calls.{fresh_nodes, commit_calls, staging_calls, unstage_calls, Unstages, Items, ClearsItems, close_calls, group_calls, calls_from, resume_calls, seal_calls, cleaning_calls, Cleans, turn_calls, home_calls, end_calls, fresh_items, CleansItems}
 use Rattle.commit_states.specs.Fits.{Fits}
 use Rattle.commit_states.specs.Stops.{IsStaging, Unplanned, Halted, Turned, TurnsRound, BehindSeal, AllUndone}
 use Rattle.commit_states.specs.Laws.{LeadsSafely, staged_history, stepped_history}
 use Rattle.commit_states.proofs.CommitLemmas.{safe_commit, done_commit, leads, ready1, gone}
-use Rattle.commit_states.proofs.HaltLemmas.{halted}
+use Rattle.commit_states.proofs.HaltLemmas.{halted, halted_in}
+use Rattle.commit_states.proofs.FinishLemmas.{seal_halted}
 use Rattle.commit_states.proofs.ResumeLemmas.{safe_forward, done_forward}
 use Rattle.commit_states.proofs.ReturnLemmas.{safe_back, done_back, at_turn, safe_back_at, done_back_at}
 use Rattle.commit_states.proofs.UncleanLemmas.{unclean}
@@ -75,6 +76,17 @@ module _ (steps : List Step) (fs : List Fresh) (journal : List ℕ) (hs : List H
       → (c : FileTree) → IsCrashState last c → GoesForward (IsWritten steps) steps (current_tree o) new nodes c
   seals_go_forward last before first failed c left = unclean (IsWritten steps) steps (current_tree o) new nodes lead hs fits.cleans o (stepped_history steps fs journal o)
       (gone steps fs journal hs new o durable sound fits).ready last before first failed c left
+
+  pub groups_halt : (front behind : List (List Step)) (g : List Step) → groups steps ≡ front ++ g ∷ behind → (k : ℕ) → k ≡ length (joined front)
+      → (last : History) (before : FileTree) (first : CallName) → FailedIn (group_calls k g) (then_all (staged_history fs journal o) (calls_from 0 front)) last before first
+      → (h : Halted (IsWritten steps) steps (current_tree o) new nodes o last) × ((h.m ≡ k) ⊎ (h.m ≡ k + length g))
+  groups_halt front behind g are k is last before first failed = halted_in (IsWritten steps) steps (current_tree o) new nodes lead fits.few_steps o front behind g (staged_history fs journal o) 0 last before first
+      (subst (Remains steps (current_tree o) new nodes lead 0) are (all_remain steps (current_tree o) new nodes lead)) (ready1 steps fs journal hs new o durable sound fits) k (omega arith) failed
+
+  pub seals_halt : (last : History) (before : FileTree) (first : CallName) → FailedIn seal_calls (stepped_history steps fs journal o) last before first
+      → Stands (current_tree last) (staged sealed) ⊎ ((h : Halted (IsWritten steps) steps (current_tree o) new nodes o last) × (h.m ≡ length steps))
+  seals_halt last before first failed = seal_halted (IsWritten steps) steps (current_tree o) new nodes lead hs fits.cleans o (stepped_history steps fs journal o)
+      (gone steps fs journal hs new o durable sound fits).ready last before first failed
 
 -- ---- without a journal
 

@@ -22,3 +22,4 @@ pub mod FreshLemmas
 pub mod ReadNameLemmas
 pub mod RecoverLemmas
 pub mod TextLemmas
+pub mod MarkerLemmas

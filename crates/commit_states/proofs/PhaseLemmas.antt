@@ -53,7 +53,7 @@ absent_by t Q x only none = by_node (get t (staged x)) refl
     by_node None e = ap is_some e
     by_node (Some node) e = absurd (none node (only x node e))
 
-plan_sealed : plan ≢ sealed
+pub plan_sealed : plan ≢ sealed
 plan_sealed = differ plan sealed 112 100 i-plan i-sealed refl
 
 plan_undone : plan ≢ undone
@@ -62,13 +62,13 @@ plan_undone = differ plan undone 112 117 i-plan i-undone refl
 sealed_undone : sealed ≢ undone
 sealed_undone = differ sealed undone 100 117 i-sealed i-undone refl
 
-plan_at : (m : ℕ) → plan ≢ at_marker m
+pub plan_at : (m : ℕ) → plan ≢ at_marker m
 plan_at m = differ plan (at_marker m) 112 97 i-plan (i-at m) refl
 
 plan_back : (m : ℕ) → plan ≢ back_marker m
 plan_back m = differ plan (back_marker m) 112 98 i-plan (i-back m) refl
 
-sealed_at : (m : ℕ) → sealed ≢ at_marker m
+pub sealed_at : (m : ℕ) → sealed ≢ at_marker m
 sealed_at m = differ sealed (at_marker m) 100 97 i-sealed (i-at m) refl
 
 sealed_back : (m : ℕ) → sealed ≢ back_marker m
@@ -129,10 +129,10 @@ journal_name Sealed = sealed
 journal_name Undone = undone
 
 module _ (t : FileTree) (tree : IsTree t) (Text : List ℕ → Type 0) (steps : List Step) (are : AreJournals Text steps) (old new : FileTree) (fresh : List Node) where
-  led_by : Leads steps old new fresh → (marker : List ℕ) (u : FileTree) → StandsAs Text marker u t → Led steps old new fresh
+  pub led_by : Leads steps old new fresh → (marker : List ℕ) (u : FileTree) → StandsAs Text marker u t → Led steps old new fresh
   led_by leads marker u s = led steps old new fresh leads (are s.journal.bytes s.journal.spelled).journal.journal.spelled.paths
 
-  based_forward : Led steps old new fresh → (m : ℕ) (u : FileTree) → m ≤ length steps → ComesBySome (to_next_cut m (groups steps)) (after (take m steps) (start old fresh)) u → Based u
+  pub based_forward : Led steps old new fresh → (m : ℕ) (u : FileTree) → m ≤ length steps → ComesBySome (to_next_cut m (groups steps)) (after (take m steps) (start old fresh)) u → Based u
   based_forward l m u le some = based_comes (to_next_cut m (groups steps)) (after (take m steps) (start old fresh)) u (entries_at steps old new fresh l m).tree (free_at steps old new fresh l m le) (based_at steps old new fresh l m) some
 
   free_back : Led steps old new fresh → (k m : ℕ) → m ≤ length steps → m ≡ k + length (from_last_cut m (groups steps)) → Free (from_last_cut m (groups steps)) (after (take k steps) (start old fresh))

@@ -1,23 +1,23 @@
 -- Lists of calls that are safe and where they lead, as statements.
-use Rattle.std.specs.Prelude.{Bool, ◌≡◌, ◌⊎◌, ℕ, ◌+◌, List, [], ◌∷◌, ◌++◌, length, codes, ◌≤◌, ◌^◌}
+use Rattle.std.specs.Prelude.{Bool, ◌≡◌, ◌≢◌, ◌⊎◌, ◌<◌, ℕ, ◌+◌, List, [], ◌∷◌, ◌++◌, length, codes, ◌≤◌, ◌^◌}
 use Rattle.tree_core.specs.declared.changes.Fresh.{Fresh}
 use Rattle.tree_core.specs.declared.node.Node.{Node}
 use Rattle.tree_core.specs.declared.node.Change.{Change}
 use Rattle.tree_core.specs.declared.node.Change.TheVariants as call
 use Rattle.tree_core.specs.declared.node.CallName.{CallName}
-use Rattle.tree_core.specs.FileTree.{FileTree, IsTree, IsAbsent}
+use Rattle.tree_core.specs.FileTree.{FileTree, IsTree, IsAbsent, Stands}
 use Rattle.tree_core.specs.History.{History, Then, IsSound, current_tree, next_number, IsCrashState, IsDurable, LeavesOnly}
 use Rattle.tree_core.specs.Runs.{then_all, CanAll, FailedIn}
 use Rattle.commit_steps.specs.declared.step.Step.{Step}
 use Rattle.commit_steps.specs.declared.step.Step.TheVariants.{MakeDir}
 use Rattle.commit_journal.specs.declared.version.Version.TheVariants.{Two}
 use Rattle.commit_journal.specs.Spelling.{journal_text}
-use Rattle.commit_steps.specs.Staging.{staging, sealed, undone}
-use Rattle.step_trees.specs.Groups.{groups}
+use Rattle.commit_steps.specs.Staging.{staging, staged, at_marker, sealed, undone}
+use Rattle.step_trees.specs.Groups.{groups, joined}
 use Rattle.step_trees.specs.Leads.{start, at_place, Leads}
 use Rattle.commit_states.specs.declared.held.Held.{Held}
 use Rattle.commit_states.specs.Interrupted.{IsWritten, JournalKind, IsOfKind, IsInterruptedBy, IsInterrupted, ending, GoesForward}
-use Rattle.commit_states.specs.Calls.{fresh_nodes, commit_calls, staging_calls, calls_from, resume_calls, seal_calls, cleaning_calls, Cleans, turn_calls, home_calls, end_calls, fresh_items, CleansItems, unstage_calls, Unstages, Items, ClearsItems, close_calls}
+use Rattle.commit_states.specs.Calls.{fresh_nodes, commit_calls, staging_calls, group_calls, calls_from, resume_calls, seal_calls, cleaning_calls, Cleans, turn_calls, home_calls, end_calls, fresh_items, CleansItems, unstage_calls, Unstages, Items, ClearsItems, close_calls}
 use Rattle.commit_states.specs.Fits.{Fits, edited_by}
 use Rattle.commit_states.specs.Stops.{Unplanned, Halted, Turned, TurnsRound, still_left, already_done, to_undo, to_undo_behind, BehindSeal, AllUndone}
 
@@ -76,6 +76,40 @@ FailedSealsGoForward =
     → Fits steps fs journal hs new (current_tree o) (next_number o)
     → (last : History) (before : FileTree) (first : CallName) → FailedIn (seal_calls ++ cleaning_calls hs (length steps)) (stepped_history steps fs journal o) last before first
     → (c : FileTree) → IsCrashState last c → GoesForward (IsWritten steps) steps (current_tree o) new (fresh_nodes (current_tree o) (next_number o + 1) fs) c
+
+-- Of a group that begins at place k: where one of its calls failed, the marker stands at k or behind the group.
+abbrev pub FailedGroupsHalt : Type 0
+FailedGroupsHalt =
+    (steps : List Step) (fs : List Fresh) (journal : List ℕ) (hs : List Held) (new : FileTree) (o : History) → IsDurable o → IsSound o
+    → Fits steps fs journal hs new (current_tree o) (next_number o)
+    → (front behind : List (List Step)) (g : List Step) → groups steps ≡ front ++ g ∷ behind → (k : ℕ) → k ≡ length (joined front)
+    → (last : History) (before : FileTree) (first : CallName)
+    → FailedIn (group_calls k g) (then_all (staged_history fs journal o) (calls_from 0 front)) last before first
+    → (h : Halted (IsWritten steps) steps (current_tree o) new (fresh_nodes (current_tree o) (next_number o + 1) fs) o last)
+    × ((h.m ≡ k) ⊎ (h.m ≡ k + length g))
+
+-- Where the seal itself failed, `done` stands, or `plan` and the last marker do.
+abbrev pub FailedSealsHalt : Type 0
+FailedSealsHalt =
+    (steps : List Step) (fs : List Fresh) (journal : List ℕ) (hs : List Held) (new : FileTree) (o : History) → IsDurable o → IsSound o
+    → Fits steps fs journal hs new (current_tree o) (next_number o)
+    → (last : History) (before : FileTree) (first : CallName)
+    → FailedIn seal_calls (stepped_history steps fs journal o) last before first
+    → Stands (current_tree last) (staged sealed)
+    ⊎ ((h : Halted (IsWritten steps) steps (current_tree o) new (fresh_nodes (current_tree o) (next_number o + 1) fs) o last) × (h.m ≡ length steps))
+
+-- One look tells which: where a commit halted at m, nothing stands under `done`,
+abbrev pub HaltsShowNoSeal : Type 0
+HaltsShowNoSeal =
+    (kind : JournalKind) (steps : List Step) (old new : FileTree) (fresh : List Node) (began now : History) → Leads steps old new fresh
+    → Halted (IsOfKind kind steps) steps old new fresh began now → IsAbsent (current_tree now) (staged sealed)
+
+-- nor under another marker than `at-m`.
+abbrev pub HaltsShowOneMarker : Type 0
+HaltsShowOneMarker =
+    (kind : JournalKind) (steps : List Step) (old new : FileTree) (fresh : List Node) (began now : History) → Leads steps old new fresh
+    → (h : Halted (IsOfKind kind steps) steps old new fresh began now)
+    → (j : ℕ) → j < 2 ^ 32 → j ≢ h.m → IsAbsent (current_tree now) (staged (at_marker j))
 
 -- ---- other journals
 

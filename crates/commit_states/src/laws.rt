@@ -2,11 +2,15 @@
 ghost use Rattle.commit_states.specs.Laws.{
   CommitsAreSafe,
   CommitsCanFit,
+  FailedGroupsHalt,
   FailedSealsGoForward,
+  FailedSealsHalt,
   FailedStagingsStop,
   FailedStepsHalt,
   HaltsGoBack,
   HaltsGoForward,
+  HaltsShowNoSeal,
+  HaltsShowOneMarker,
   InterruptedTreesRecover,
   SealsGoForward,
   TurnedGoBack,
@@ -49,6 +53,15 @@ pub fn failed_calls_leave_rows()
     ensures staging { FailedStagingsStop }
     ensures steps { FailedStepsHalt }
     ensures seal { FailedSealsGoForward }
+{}
+
+/// Which marker stands. Where a call of a group failed: that of the place before the group, or of the one behind it. Where the seal
+/// failed: the last one, unless `done` stands. Where a marker stands no other does, and nothing under `done`, so that one look tells.
+pub fn failed_calls_tell_markers()
+    ensures groups { FailedGroupsHalt }
+    ensures seal { FailedSealsHalt }
+    ensures no_seal { HaltsShowNoSeal }
+    ensures one_marker { HaltsShowOneMarker }
 {}
 
 /// Where a journal stands in a tree that a commit may leave, it is of version 2, as the commit wrote it. Such a tree is an
