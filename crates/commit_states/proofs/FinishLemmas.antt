@@ -7,6 +7,8 @@ use Rattle.tree_core.specs.History.{History, Then, IsSound, current_tree, IsDura
 use Rattle.tree_core.specs.Runs.{then_all, FailedIn}
 use Rattle.tree_core.specs.declared.node.CallName.{CallName}
 use Rattle.commit_states.specs.Stops.{Halted}
+use Rattle.commit_states.proofs.HaltLemmas.{split_failed}
+use Rattle.commit_states.proofs.PlaceLemmas.{closed_before, Behind, behind_sealed, behind_last}
 use Rattle.step_trees.specs.Groups.{groups, to_next_cut}
 use Rattle.step_trees.proofs.ChoiceLemmas.{none_done}
 use Rattle.tree_core.proofs.Moments.{durable-sync, Pending, pending-durable}
@@ -89,6 +91,15 @@ module _ (Text : List ℕ → Type 0) (steps : List Step) (old new : FileTree) (
   pub safe_finish_as : IsSafe o P h2 (seal_calls ++ cleaning_calls hs (length steps))
   safe_finish_as = safe_append o P h2 seal_calls (cleaning_calls hs (length steps)) safe3 safe_cleaning
 
+  pub before_cleaning : (x : History) (before : FileTree) (first : CallName) → FailedIn (cleaning_calls hs (length steps)) h3 x before first → Behind new before
+  before_cleaning x before first failed = ⊎_elim
+      (λ one. let p = closed_before (IsSealed Text steps new) h3 x before first (removals hs (length steps)) pending3 cleared.closed one in
+      subst (Behind new) (sym p.2) (behind_sealed Text steps new (current_tree p.0) (p.1).now))
+      (λ two. let p = closed_before (IsLastSealed Text steps new) h4 x before first last_calls (pending-durable h4 (IsLastSealed Text steps new) durable4 sound4 (inl last))
+      (closed_last sealed (last_marker steps) own-sealed (own-last_marker steps) sealed_plan (plan-last_marker steps) (sealed-last_marker steps) Text steps new IsHeld less_held h4 last sound4) two in
+      subst (Behind new) (sym p.2) (behind_last Text steps new (current_tree p.0) (p.1).sound.tree (p.1).now))
+      (split_failed (removals hs (length steps) ++ call.Sync ∷ []) (last_calls ++ call.Sync ∷ []) h3 x before first failed)
+
   is_finish : then_all h2 (seal_calls ++ cleaning_calls hs (length steps)) ≡ h5
   is_finish = then_all-append h2 seal_calls (cleaning_calls hs (length steps)) ∙ then_all-append h3 (removals hs (length steps) ++ call.Sync ∷ []) (last_calls ++ call.Sync ∷ [])
 
@@ -133,3 +144,7 @@ module _ (Text : List ℕ → Type 0) (steps : List Step) (old new : FileTree) (
       (λ is. inl (subst (λ (x : History). Stands (current_tree x) (staged sealed)) (sym is) sealed_stands))
       (λ is. inl (subst (λ (x : History). Stands (current_tree x) (staged sealed)) (sym is) sealed_stands)) f.fate
   seal_halted last before first (inr (inr nothing)) = absurd nothing
+
+  pub before_end : (last : History) (before : FileTree) (first : CallName) → FailedIn (cleaning_calls hs (length steps)) (then_all h2 seal_calls) last before first → Behind new before
+  before_end = before_cleaning Text steps old new nodes leads hs cleans (IsInterruptedBy Text steps old new nodes) (λ t s. forward_at Text steps old new nodes leads (length steps) t (omega arith) s)
+      (sealed_gives Text steps old new nodes leads) (last_gives Text steps old new nodes leads) o h2 r.moments r.durable r.sound r.stands

@@ -1,5 +1,5 @@
 -- The laws of safe lists of calls, put together.
-use Rattle.std.proofs.Common.{◌≡◌, ◌⊎◌, inl, inr, ⊎_elim, ℕ, ◌+◌, ◌<◌, ◌^◌, List, [], ◌∷◌, ◌++◌, length, take, ◌∙◌, subst, arith}
+use Rattle.std.proofs.Common.{◌≡◌, ◌⊎◌, inl, inr, ⊎_elim, ℕ, ◌+◌, ◌<◌, ◌^◌, List, [], ◌∷◌, ◌++◌, length, take, sym, ◌∙◌, subst, arith}
 use Rattle.std.specs.List.{AllByRecursion}
 use Rattle.tree_core.specs.declared.changes.Fresh.{Fresh}
 use Rattle.tree_core.specs.declared.node.Node.{Node}
@@ -27,8 +27,13 @@ use Rattle.commit_states.specs.Fits.{Fits}
 use Rattle.commit_states.specs.Stops.{IsStaging, Unplanned, Halted, Turned, TurnsRound, BehindSeal, AllUndone}
 use Rattle.commit_states.specs.Laws.{LeadsSafely, staged_history, stepped_history}
 use Rattle.commit_states.proofs.CommitLemmas.{safe_commit, done_commit, leads, ready1, gone}
-use Rattle.commit_states.proofs.HaltLemmas.{halted, halted_in}
-use Rattle.commit_states.proofs.FinishLemmas.{seal_halted}
+use Rattle.commit_states.proofs.HaltLemmas.{halted, halted_in, split_failed}
+use Rattle.commit_states.proofs.FinishLemmas.{seal_halted, sealed_stands, before_end}
+use Rattle.commit_states.proofs.LoopLemmas.{Ready}
+use Rattle.commit_states.proofs.PlaceLemmas.{failed_here}
+use Rattle.commit_states.proofs.MarkerLemmas.{dir_there}
+use Rattle.commit_states.proofs.TextLemmas.{written_are}
+use Rattle.commit_states.specs.Places.{AmongGroups, AtSeal, SealOrBehind}
 use Rattle.commit_states.proofs.ResumeLemmas.{safe_forward, done_forward}
 use Rattle.commit_states.proofs.ReturnLemmas.{safe_back, done_back, at_turn, safe_back_at, done_back_at}
 use Rattle.commit_states.proofs.UncleanLemmas.{unclean}
@@ -87,6 +92,27 @@ module _ (steps : List Step) (fs : List Fresh) (journal : List ℕ) (hs : List H
       → Stands (current_tree last) (staged sealed) ⊎ ((h : Halted (IsWritten steps) steps (current_tree o) new nodes o last) × (h.m ≡ length steps))
   seals_halt last before first failed = seal_halted (IsWritten steps) steps (current_tree o) new nodes lead hs fits.cleans o (stepped_history steps fs journal o)
       (gone steps fs journal hs new o durable sound fits).ready last before first failed
+
+  pub places_among : (last : History) (before : FileTree) (first : CallName) → FailedIn (calls_from 0 (groups steps)) (staged_history fs journal o) last before first → AmongGroups steps before
+  places_among last before first failed =
+      let here = failed_here (calls_from 0 (groups steps)) (staged_history fs journal o) last before first failed in
+      let h = steps_halt here.0 before first here.2 in
+      subst (AmongGroups steps) (sym here.1) record {
+        dir = dir_there (IsWritten steps) steps (written_are steps) (current_tree o) new nodes o here.0 fits.leads h;
+        journal = h.stands.journal;
+      }
+
+  pub places_behind : (last : History) (before : FileTree) (first : CallName) → FailedIn (seal_calls ++ cleaning_calls hs (length steps)) (stepped_history steps fs journal o) last before first → SealOrBehind steps new first before
+  places_behind last before first failed =
+      let r = (gone steps fs journal hs new o durable sound fits).ready in
+      ⊎_elim (λ one. at_seal r one)
+      (λ two. inr (before_end (IsWritten steps) steps (current_tree o) new nodes lead hs fits.cleans o (stepped_history steps fs journal o) r last before first two))
+      (split_failed seal_calls (cleaning_calls hs (length steps)) (stepped_history steps fs journal o) last before first failed)
+    where
+      at_seal : Ready (IsWritten steps) steps (current_tree o) new nodes o (stepped_history steps fs journal o) (length steps) → FailedIn seal_calls (stepped_history steps fs journal o) last before first → SealOrBehind steps new first before
+      at_seal r (inl f) = inl (subst (AtSeal steps first) (sym f.tree) record { call_is = f.named; journal = r.stands.journal; marked = r.stands.marked })
+      at_seal r (inr (inl f)) = inr (inl (subst (λ t. Stands t (staged sealed)) (sym f.tree) (sealed_stands (IsWritten steps) steps (current_tree o) new nodes lead hs fits.cleans o (stepped_history steps fs journal o) r)))
+      at_seal r (inr (inr nothing)) = absurd nothing
 
 -- ---- without a journal
 

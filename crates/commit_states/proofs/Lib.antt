@@ -23,3 +23,4 @@ pub mod ReadNameLemmas
 pub mod RecoverLemmas
 pub mod TextLemmas
 pub mod MarkerLemmas
+pub mod PlaceLemmas

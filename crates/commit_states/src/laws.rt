@@ -5,8 +5,10 @@ ghost use Rattle.commit_states.specs.Laws.{
   FailedGroupsHalt,
   FailedSealsGoForward,
   FailedSealsHalt,
+  FailedSealsTellPlaces,
   FailedStagingsStop,
   FailedStepsHalt,
+  FailedStepsTellPlaces,
   HaltsGoBack,
   HaltsGoForward,
   HaltsShowNoSeal,
@@ -62,6 +64,13 @@ pub fn failed_calls_tell_markers()
     ensures seal { FailedSealsHalt }
     ensures no_seal { HaltsShowNoSeal }
     ensures one_marker { HaltsShowOneMarker }
+{}
+
+/// The tree before a call that failed tells where the commit was. Among the groups `plan` stood. At the seal or behind it `done`
+/// stood, or no journal and the edited tree, or the call is the seal itself, and `plan` and the last marker stood.
+pub fn failed_calls_tell_places()
+    ensures groups { FailedStepsTellPlaces }
+    ensures seal { FailedSealsTellPlaces }
 {}
 
 /// Where a journal stands in a tree that a commit may leave, it is of version 2, as the commit wrote it. Such a tree is an
