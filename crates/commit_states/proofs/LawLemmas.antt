@@ -33,11 +33,11 @@ use Rattle.commit_states.proofs.LoopLemmas.{Ready}
 use Rattle.commit_states.proofs.PlaceLemmas.{failed_here}
 use Rattle.commit_states.proofs.MarkerLemmas.{dir_there}
 use Rattle.commit_states.proofs.TextLemmas.{written_are}
-use Rattle.commit_states.specs.Places.{AmongGroups, AtSeal, SealOrBehind}
+use Rattle.commit_states.specs.Places.{InStaging, AmongGroups, AtSeal, SealOrBehind}
 use Rattle.commit_states.proofs.ResumeLemmas.{safe_forward, done_forward}
 use Rattle.commit_states.proofs.ReturnLemmas.{safe_back, done_back, at_turn, safe_back_at, done_back_at}
 use Rattle.commit_states.proofs.UncleanLemmas.{unclean}
-use Rattle.commit_states.proofs.StageLemmas.{failed_staging}
+use Rattle.commit_states.proofs.StageLemmas.{failed_staging, staging_place}
 use Rattle.commit_states.proofs.UnstageLemmas.{safe_unstage, done_unstage}
 use Rattle.step_trees.specs.Entries.{IsHeld}
 use Rattle.step_trees.proofs.NameLemmas.{own-sealed, own-undone, own-back}
@@ -92,6 +92,9 @@ module _ (steps : List Step) (fs : List Fresh) (journal : List ℕ) (hs : List H
       → Stands (current_tree last) (staged sealed) ⊎ ((h : Halted (IsWritten steps) steps (current_tree o) new nodes o last) × (h.m ≡ length steps))
   seals_halt last before first failed = seal_halted (IsWritten steps) steps (current_tree o) new nodes lead hs fits.cleans o (stepped_history steps fs journal o)
       (gone steps fs journal hs new o durable sound fits).ready last before first failed
+
+  pub places_staging : (last : History) (before : FileTree) (first : CallName) → FailedIn (staging_calls fs journal) (Then o call.Sync) last before first → InStaging steps (current_tree o) first before
+  places_staging last before first failed = staging_place (IsWritten steps) steps new fs journal o durable sound fits.absent fits.lawful fits.few_fresh fits.journal_is lead last before first failed
 
   pub places_among : (last : History) (before : FileTree) (first : CallName) → FailedIn (calls_from 0 (groups steps)) (staged_history fs journal o) last before first → AmongGroups steps before
   places_among last before first failed =

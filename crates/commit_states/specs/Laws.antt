@@ -18,7 +18,7 @@ use Rattle.step_trees.specs.Leads.{start, at_place, Leads}
 use Rattle.commit_states.specs.declared.held.Held.{Held}
 use Rattle.commit_states.specs.Interrupted.{IsWritten, JournalKind, IsOfKind, IsInterruptedBy, IsInterrupted, ending, GoesForward}
 use Rattle.commit_states.specs.Calls.{fresh_nodes, commit_calls, staging_calls, group_calls, calls_from, resume_calls, seal_calls, cleaning_calls, Cleans, turn_calls, home_calls, end_calls, fresh_items, CleansItems, unstage_calls, Unstages, Items, ClearsItems, close_calls}
-use Rattle.commit_states.specs.Places.{AmongGroups, SealOrBehind}
+use Rattle.commit_states.specs.Places.{InStaging, AmongGroups, SealOrBehind}
 use Rattle.commit_states.specs.Fits.{Fits, edited_by}
 use Rattle.commit_states.specs.Stops.{Unplanned, Halted, Turned, TurnsRound, still_left, already_done, to_undo, to_undo_behind, BehindSeal, AllUndone}
 
@@ -112,7 +112,15 @@ HaltsShowOneMarker =
     → (h : Halted (IsOfKind kind steps) steps old new fresh began now)
     → (j : ℕ) → j < 2 ^ 32 → j ≢ h.m → IsAbsent (current_tree now) (staged (at_marker j))
 
--- The tree before a call that failed tells the place: among the groups,
+-- The tree before a call that failed tells the place: in the staging,
+abbrev pub FailedStagingsTellPlaces : Type 0
+FailedStagingsTellPlaces =
+    (steps : List Step) (fs : List Fresh) (journal : List ℕ) (hs : List Held) (new : FileTree) (o : History) → IsDurable o → IsSound o
+    → Fits steps fs journal hs new (current_tree o) (next_number o)
+    → (last : History) (before : FileTree) (first : CallName)
+    → FailedIn (staging_calls fs journal) (Then o call.Sync) last before first → InStaging steps (current_tree o) first before
+
+-- among the groups,
 abbrev pub FailedStepsTellPlaces : Type 0
 FailedStepsTellPlaces =
     (steps : List Step) (fs : List Fresh) (journal : List ℕ) (hs : List Held) (new : FileTree) (o : History) → IsDurable o → IsSound o

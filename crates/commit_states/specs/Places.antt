@@ -28,3 +28,9 @@ pub record AtSeal (steps : List Step) (first : CallName) (t : FileTree) : Type 0
 -- at the seal or behind it: `done` stood, or no journal any more and the rest was the edited tree
 abbrev pub SealOrBehind : List Step → FileTree → CallName → FileTree → Type 0
 SealOrBehind steps new first t = AtSeal steps first t ⊎ (Stands t (staged sealed) ⊎ (HasNoJournal t × (rest t ≡ new)))
+
+-- in the staging: the directory was to be made, and the old tree stood; or it stood, with `plan`, or without a journal and with the
+-- old tree as the rest
+abbrev pub InStaging : List Step → FileTree → CallName → FileTree → Type 0
+InStaging steps old first t =
+    ((first ≡ name.MakeDir) × (t ≡ old)) ⊎ (IsDir t staging × (JournalAt (IsWritten steps) t plan ⊎ (HasNoJournal t × (rest t ≡ old))))

@@ -7,6 +7,7 @@ ghost use Rattle.commit_states.specs.Laws.{
   FailedSealsHalt,
   FailedSealsTellPlaces,
   FailedStagingsStop,
+  FailedStagingsTellPlaces,
   FailedStepsHalt,
   FailedStepsTellPlaces,
   HaltsGoBack,
@@ -66,9 +67,11 @@ pub fn failed_calls_tell_markers()
     ensures one_marker { HaltsShowOneMarker }
 {}
 
-/// The tree before a call that failed tells where the commit was. Among the groups `plan` stood. At the seal or behind it `done`
+/// The tree before a call that failed tells where the commit was. In the staging the
+/// old tree stood, or the staging directory with `plan` or without a journal. Among the groups `plan` stood. At the seal or behind it `done`
 /// stood, or no journal and the edited tree, or the call is the seal itself, and `plan` and the last marker stood.
 pub fn failed_calls_tell_places()
+    ensures staging { FailedStagingsTellPlaces }
     ensures groups { FailedStepsTellPlaces }
     ensures seal { FailedSealsTellPlaces }
 {}
