@@ -128,16 +128,16 @@ module _ (Text : List ℕ → Type 0) (steps : List Step) (old new : FileTree) (
       → Stands (current_tree last) (staged sealed) ⊎ ((h : Halted Text steps old new nodes o last) × (h.m ≡ length steps))
   seal_halted last before first (inl f) = ⊎_elim
       (λ is. inr (subst (λ (x : History). (h : Halted Text steps old new nodes o x) × (h.m ≡ length steps)) (sym is) (
-      record {
-        m = length steps;
-        u = after (take (length steps) steps) (start old nodes);
-        le = omega arith;
-        comes = none_done (to_next_cut (length steps) (groups steps)) (after (take (length steps) steps) (start old nodes));
-        stands = r.stands;
-        moments = r.moments;
-        sound = r.sound;
-      },
-      refl,
+        record {
+          m = length steps;
+          u = after (take (length steps) steps) (start old nodes);
+          le = omega arith;
+          comes = none_done (to_next_cut (length steps) (groups steps)) (after (take (length steps) steps) (start old nodes));
+          stands = r.stands;
+          moments = r.moments;
+          sound = r.sound;
+        },
+        refl,
       )))
       (λ is. inl (subst (λ (x : History). Stands (current_tree x) (staged sealed)) (sym is) sealed_stands)) f.fate
   seal_halted last before first (inr (inl f)) = ⊎_elim

@@ -136,13 +136,13 @@ module _ (Text : List ℕ → Type 0) (steps : List Step) (old new : FileTree) (
   halted_in [] gs g now k last before first m r n is failed =
       let e : n ≡ k = omega arith in
       subst (λ x. (h : Halted Text steps old new fresh o last) × ((h.m ≡ x) ⊎ (h.m ≡ x + length g))) (sym e)
-          (halted_group now k g (first_stretch steps old new fresh leads k g gs m) r last before first (subst (λ x. FailedIn (group_calls x g) now last before first) e failed))
+      (halted_group now k g (first_stretch steps old new fresh leads k g gs m) r last before first (subst (λ x. FailedIn (group_calls x g) now last before first) e failed))
   halted_in (f ∷ front) gs g now k last before first m r n is failed =
       let count = length-append f (joined front) in
       let e : n ≡ k + length f + length (joined front) = omega arith in
       halted_in front gs g (then_all now (group_calls k f)) (k + length f) last before first (remains_next steps old new fresh leads k f (front ++ g ∷ gs) m)
-          (one_group Text steps old new fresh leads few o now k f (first_stretch steps old new fresh leads k f (front ++ g ∷ gs) m) r).ready n e
-          (subst (λ (x : History). FailedIn (group_calls n g) x last before first) (then_all-append now (group_calls k f) (calls_from (k + length f) front)) failed)
+      (one_group Text steps old new fresh leads few o now k f (first_stretch steps old new fresh leads k f (front ++ g ∷ gs) m) r).ready n e
+      (subst (λ (x : History). FailedIn (group_calls n g) x last before first) (then_all-append now (group_calls k f) (calls_from (k + length f) front)) failed)
 
   -- The first call of the way back, a sync: what `ReturnLemmas` asks for.
   module _ (now : History) (h : Halted Text steps old new fresh o now) where

@@ -1,12 +1,12 @@
 -- Where a commit halted one marker stands, and nothing under `done`.
-use Rattle.std.proofs.Common.{◌≡◌, ◌≢◌, ℕ, ◌<◌, ◌^◌, List, sym, arith}
+use Rattle.std.proofs.Common.{◌≢◌, ℕ, ◌<◌, ◌^◌, List, sym, arith}
 use Rattle.tree_core.specs.declared.node.Node.{Node}
 use Rattle.tree_core.specs.FileTree.{FileTree, IsAbsent, IsDir}
 use Rattle.tree_core.specs.History.{History, current_tree}
 use Rattle.commit_steps.specs.declared.step.Step.{Step}
 use Rattle.commit_steps.specs.Staging.{staging, staged, sealed, at_marker}
 use Rattle.step_trees.specs.Leads.{Leads}
-use Rattle.step_trees.proofs.NameLemmas.{IsOwn, own-at, own-sealed, at_injects}
+use Rattle.step_trees.proofs.NameLemmas.{own-at, own-sealed, at_injects}
 use Rattle.step_trees.proofs.LeadLemmas.{Based}
 use Rattle.commit_states.specs.Interrupted.{AreJournals}
 use Rattle.commit_states.specs.Stops.{Halted}

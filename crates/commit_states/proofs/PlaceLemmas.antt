@@ -1,5 +1,5 @@
 -- The tree before a call that failed.
-use Rattle.std.proofs.Common.{◌≡◌, ◌⊎◌, inl, inr, ⊎_elim, ℕ, List, [], ◌∷◌, ◌++◌, length, take, refl, sym, ◌∙◌, ap, subst, arith, Option, Some, None, is_some}
+use Rattle.std.proofs.Common.{◌≡◌, ◌⊎◌, inl, inr, ℕ, List, [], ◌∷◌, ◌++◌, refl, ◌∙◌, ap, Option, Some, None, is_some}
 use Rattle.std.specs.FinMap.{get}
 use Rattle.tree_core.specs.declared.node.Node.{Node}
 use Rattle.tree_core.specs.declared.node.Change.{Change}
@@ -7,7 +7,7 @@ use Rattle.tree_core.specs.declared.node.Change.TheVariants as call
 use Rattle.tree_core.specs.declared.node.CallName.{CallName}
 use Rattle.tree_core.specs.FileTree.{FileTree, IsTree, IsAbsent, Stands}
 use Rattle.tree_core.specs.History.{History, Then, current_tree}
-use Rattle.tree_core.specs.Runs.{then_all, FailedIn}
+use Rattle.tree_core.specs.Runs.{FailedIn}
 use Rattle.tree_core.proofs.TreeLemmas.{absent_below}
 use Rattle.tree_core.proofs.Moments.{Pending, pending-kept}
 use Rattle.tree_core.proofs.Runs.{IsClosed}

@@ -1,5 +1,5 @@
 -- Where a commit was when a call of it failed, by the tree that stood before that call.
-use Rattle.std.specs.Prelude.{◌≡◌, ◌⊎◌, ℕ, List, length}
+use Rattle.std.specs.Prelude.{◌≡◌, ◌⊎◌, List, length}
 use Rattle.tree_core.specs.FileTree.{FileTree, IsAbsent, IsDir, IsFile, Stands}
 use Rattle.tree_core.specs.declared.node.CallName.{CallName}
 use Rattle.tree_core.specs.declared.node.CallName.TheVariants as name
