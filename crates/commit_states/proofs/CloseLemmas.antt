@@ -28,12 +28,12 @@ use Rattle.step_trees.specs.Steps.{after}
 use Rattle.step_trees.proofs.LeadLemmas.{Led}
 
 module _ (jn mk : List ℕ) (own_j : IsOwn jn) (own_m : IsOwn mk) (sealed_plan : jn ≢ plan) (plan_last : plan ≢ mk) (jn_mk : jn ≢ mk)
-    (steps : List Step) (target : FileTree) (E : FileTree → List ℕ → Node → Type 0) (less : (u : FileTree) (p : Names) (name : List ℕ) (node : Node) → E u name node → E (remove u p) name node) where
+    (Text : List ℕ → Type 0) (steps : List Step) (target : FileTree) (E : FileTree → List ℕ → Node → Type 0) (less : (u : FileTree) (p : Names) (name : List ℕ) (node : Node) → E u name node → E (remove u p) name node) where
   -- ---- while names other than the journal are removed
 
   pub record Sealed (t : FileTree) : Type 0 where
     pub dir : IsDir t staging
-    pub journal : JournalAt t jn steps
+    pub journal : JournalAt Text t jn
     pub only : HoldsOnly t (λ name node. (name ≡ jn) ⊎ (E t name node ⊎ IsOne mk name node))
     pub is : rest t ≡ target
 
@@ -107,7 +107,7 @@ module _ (jn mk : List ℕ) (own_j : IsOwn jn) (own_m : IsOwn mk) (sealed_plan :
   -- only the journal is left
   pub record Last (t : FileTree) : Type 0 where
     pub dir : IsDir t staging
-    pub journal : JournalAt t jn steps
+    pub journal : JournalAt Text t jn
     pub only : HoldsOnly t (λ name node. name ≡ jn)
     pub is : rest t ≡ target
 
@@ -286,18 +286,18 @@ module _ (jn mk : List ℕ) (own_j : IsOwn jn) (own_m : IsOwn mk) (sealed_plan :
 -- ---- the journal gets its last name
 
 module _ (jn mk : List ℕ) (own_j : IsOwn jn) (own_m : IsOwn mk) (sealed_plan : jn ≢ plan) (plan_last : plan ≢ mk) (sealed_last : jn ≢ mk)
-    (steps : List Step) (target : FileTree) (E : FileTree → List ℕ → Node → Type 0) (less : (u : FileTree) (p : Names) (name : List ℕ) (node : Node) → E u name node → E (remove u p) name node)
+    (Text : List ℕ → Type 0) (steps : List Step) (target : FileTree) (E : FileTree → List ℕ → Node → Type 0) (less : (u : FileTree) (p : Names) (name : List ℕ) (node : Node) → E u name node → E (remove u p) name node)
     (carry : (t u : FileTree) (name : List ℕ) (node : Node) → ((r : Names) → get u (staged name ++ r) ≡ get t (staged name ++ r)) → E t name node → E u name node)
     (old new : FileTree) (fresh : List Node) (leads : Led steps old new fresh) (names : AreNames (staged jn)) where
   module _ (j : ℕ) (ends_is : rest (after (take j steps) (start old fresh)) ≡ target) (ends_only : HoldsOnly (after (take j steps) (start old fresh)) (E (after (take j steps) (start old fresh))))
-      (t : FileTree) (tree : IsTree t) (s : StandsAfter steps old fresh mk j t) where
+      (t : FileTree) (tree : IsTree t) (s : StandsAfter Text steps old fresh mk j t) where
     pub can_seal : CanRename t (staged plan) (staged jn)
     can_seal = record {
       named = names;
       stands = ap is_some s.journal.stands;
       not_root = λ e. (let k : staged plan ≡ [] = e in cc);
-      absent = absent_own steps old new fresh leads mk own_m plan_last j t tree s jn own_j sealed_last sealed_plan;
-      parent_is_dir = staging_stands steps old new fresh leads mk own_m plan_last j t tree s;
+      absent = absent_own Text steps old new fresh leads mk own_m plan_last j t tree s jn own_j sealed_last sealed_plan;
+      parent_is_dir = staging_stands Text steps old new fresh leads mk own_m plan_last j t tree s;
       apart = (apart_staged plan jn (λ e. sealed_plan (sym e))).0;
     }
 
@@ -336,7 +336,7 @@ module _ (jn mk : List ℕ) (own_j : IsOwn jn) (own_m : IsOwn mk) (sealed_plan :
             inr record { named = named; kind = file_node node s.marked (ap (λ n. get t (staged n)) (sym named) ∙ sym (kept_there name [] no_sealed no_plan) ∙ e) }
         by_last no_sealed no_plan None is =
             let no_last : name ≢ mk = λ same. none-some [] (sym is ∙ ap (λ n. rest_below (staged mk) (staged n)) same ∙ rest_below-same (staged mk)) in
-            inl (carry (after (take j steps) (start old fresh)) u name node (λ r. kept_there name r no_sealed no_plan ∙ shown_bare steps old new fresh leads mk own_m plan_last j t tree s name r no_last no_plan) (ends_only name node (sym (shown_bare steps old new fresh leads mk own_m plan_last j t tree s name [] no_last no_plan) ∙ sym (kept_there name [] no_sealed no_plan) ∙ e)))
+            inl (carry (after (take j steps) (start old fresh)) u name node (λ r. kept_there name r no_sealed no_plan ∙ shown_bare Text steps old new fresh leads mk own_m plan_last j t tree s name r no_last no_plan) (ends_only name node (sym (shown_bare Text steps old new fresh leads mk own_m plan_last j t tree s name [] no_last no_plan) ∙ sym (kept_there name [] no_sealed no_plan) ∙ e)))
 
         by_plan : rest_below (staged jn) (staged name) ≡ None → name ≢ jn → (o : Option Names) → rest_below (staged plan) (staged name) ≡ o → E u name node ⊎ IsOne mk name node
         by_plan out no_sealed (Some r) is = absurd (none-some node (sym (renamed-from t (staged plan) (staged jn) clear_sealed (staged name) r out is) ∙ e))
@@ -347,13 +347,13 @@ module _ (jn mk : List ℕ) (own_j : IsOwn jn) (own_m : IsOwn mk) (sealed_plan :
         by_sealed None is = inr (by_plan is (λ same. none-some [] (sym is ∙ ap (λ n. rest_below (staged jn) (staged n)) same ∙ rest_below-same (staged jn))) _ refl)
 
     pub sealed_dir : IsDir u staging
-    sealed_dir = ap is_dir_node (renamed-out t (staged plan) (staged jn) clear_sealed staging (none_above jn) (none_above plan)) ∙ staging_stands steps old new fresh leads mk own_m plan_last j t tree s
+    sealed_dir = ap is_dir_node (renamed-out t (staged plan) (staged jn) clear_sealed staging (none_above jn) (none_above plan)) ∙ staging_stands Text steps old new fresh leads mk own_m plan_last j t tree s
       where
         none_above : (x : List ℕ) → rest_below (staged x) staging ≡ None
         none_above x = none_below (staged x) staging (λ r e. let k : staging ≡ staged x ++ r = e in cc)
 
-    pub sealed_journal : JournalAt u jn steps
-    sealed_journal = journal_kept t u plan jn steps s.journal record { mode = s.journal.mode; is = renamed-to t (staged plan) (staged jn) clear_sealed [] ∙ s.journal.stands }
+    pub sealed_journal : JournalAt Text u jn
+    sealed_journal = journal_kept Text t u plan jn s.journal record { mode = s.journal.mode; is = renamed-to t (staged plan) (staged jn) clear_sealed [] ∙ s.journal.stands }
 
     pub sealed_marked : IsFile u (staged mk)
     sealed_marked = ap is_file_node (kept_there mk [] (λ e. sealed_last (sym e)) (λ e. plan_last (sym e))) ∙ s.marked
@@ -363,7 +363,7 @@ module _ (jn mk : List ℕ) (own_j : IsOwn jn) (own_m : IsOwn mk) (sealed_plan :
         without-comm (staged jn) (staged mk) u ∙ ap (without (staged mk)) (without-moved t (staged plan) (staged jn) clear_sealed)
         ∙ without-comm (staged mk) (staged plan) t ∙ s.bare_is
 
-    pub sealed_clearing : (a : FileTree) (xs : Items) → a ≡ after (take j steps) (start old fresh) → CleansItems xs a → Clearing jn mk own_j own_m sealed_plan plan_last sealed_last steps target E less a u xs
+    pub sealed_clearing : (a : FileTree) (xs : Items) → a ≡ after (take j steps) (start old fresh) → CleansItems xs a → Clearing jn mk own_j own_m sealed_plan plan_last sealed_last Text steps target E less a u xs
     sealed_clearing a xs is cleans = record {
       row = record { dir = sealed_dir; journal = sealed_journal; only = only_sealed; is = rest_sealed };
       marked = sealed_marked;

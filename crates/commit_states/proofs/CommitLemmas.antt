@@ -16,7 +16,7 @@ use Rattle.commit_states.proofs.LoopLemmas.{Ready, Gone, go}
 use Rattle.commit_states.proofs.StageLemmas.{first_moments, safe_planned, first_ready}
 use Rattle.commit_states.specs.Calls.{fresh_nodes, staging_calls, calls_from, seal_calls, cleaning_calls, work_calls, commit_calls}
 use Rattle.commit_states.specs.Fits.{Fits, edited_by}
-use Rattle.commit_states.specs.Interrupted.{IsInterrupted}
+use Rattle.commit_states.specs.Interrupted.{IsInterruptedBy}
 use Rattle.commit_states.specs.declared.held.Held.{Held}
 use Rattle.commit_steps.specs.Staging.{staging, staged, fresh_name}
 use Rattle.commit_steps.specs.declared.step.Step.{Step}
@@ -25,8 +25,7 @@ use Rattle.step_trees.proofs.Without.{without-insert_in, without-nothing}
 use Rattle.step_trees.specs.Entries.{rest}
 use Rattle.step_trees.specs.Groups.{groups}
 use Rattle.step_trees.specs.Leads.{with_fresh}
-use Rattle.commit_journal.specs.declared.version.Version.TheVariants.{Two}
-use Rattle.commit_states.specs.Interrupted.{IsJournalText}
+use Rattle.commit_states.specs.Interrupted.{IsWritten}
 use Rattle.step_trees.proofs.LeadLemmas.{Led, led}
 
 rest_fresh : (nodes : List Node) (k : ℕ) (t : FileTree) → rest (with_fresh k nodes t) ≡ rest t
@@ -46,7 +45,7 @@ module _ (steps : List Step) (fs : List Fresh) (journal : List ℕ) (hs : List H
   nodes = fresh_nodes old (next_number o + 1) fs
 
   abbrev P : FileTree → Type 0
-  P = IsInterrupted steps old new nodes
+  P = IsInterruptedBy (IsWritten steps) steps old new nodes
 
   abbrev h0 : History
   h0 = Then o call.Sync
@@ -60,20 +59,17 @@ module _ (steps : List Step) (fs : List Fresh) (journal : List ℕ) (hs : List H
   pub leads : Led steps old new nodes
   leads = led steps old new nodes fits.leads fits.journal_is.journal.spelled.paths
 
-  pub journal_is : IsJournalText steps journal
-  journal_is = record { journal = record { version = Two; journal = fits.journal_is.journal }; short = fits.journal_is.short }
-
   safe1 : IsSafe o P h0 (staging_calls fs journal)
-  safe1 = safe_planned steps new fs journal o durable sound fits.absent fits.lawful fits.few_fresh journal_is leads
+  safe1 = safe_planned (IsWritten steps) steps new fs journal o durable sound fits.absent fits.lawful fits.few_fresh fits.journal_is leads
 
-  pub ready1 : Ready steps old new nodes o h1 0
-  ready1 = first_ready steps new fs journal o durable sound fits.absent fits.lawful fits.few_fresh journal_is leads
+  pub ready1 : Ready (IsWritten steps) steps old new nodes o h1 0
+  ready1 = first_ready (IsWritten steps) steps new fs journal o durable sound fits.absent fits.lawful fits.few_fresh fits.journal_is leads
 
-  pub gone : Gone steps old new nodes leads fits.few_steps o h1 0 (groups steps)
-  gone = go steps old new nodes leads fits.few_steps o (groups steps) h1 0 (all_remain steps old new nodes leads) ready1
+  pub gone : Gone (IsWritten steps) steps old new nodes leads fits.few_steps o h1 0 (groups steps)
+  gone = go (IsWritten steps) steps old new nodes leads fits.few_steps o (groups steps) h1 0 (all_remain steps old new nodes leads) ready1
 
   safe_end : IsSafe o P h2 (seal_calls ++ cleaning_calls hs (length steps))
-  safe_end = safe_finish steps old new nodes leads hs fits.cleans o h2 gone.ready
+  safe_end = safe_finish (IsWritten steps) steps old new nodes leads hs fits.cleans o h2 gone.ready
 
   safe_work : IsSafe o P h0 (work_calls steps fs journal hs)
   safe_work = safe_append o P h0 (staging_calls fs journal) (calls_from 0 (groups steps) ++ (seal_calls ++ cleaning_calls hs (length steps))) safe1
@@ -81,7 +77,7 @@ module _ (steps : List Step) (fs : List Fresh) (journal : List ℕ) (hs : List H
 
   -- A crash at any moment of a commit leaves an interrupted tree.
   pub safe_commit : IsSafe o P o (commit_calls steps fs journal hs)
-  safe_commit = (first_moments steps new fs journal o durable sound fits.absent fits.lawful fits.few_fresh journal_is leads, tt, safe_work)
+  safe_commit = (first_moments (IsWritten steps) steps new fs journal o durable sound fits.absent fits.lawful fits.few_fresh fits.journal_is leads, tt, safe_work)
 
   is_all : then_all o (commit_calls steps fs journal hs) ≡ then_all h2 (seal_calls ++ cleaning_calls hs (length steps))
   is_all =
@@ -90,4 +86,4 @@ module _ (steps : List Step) (fs : List Fresh) (journal : List ℕ) (hs : List H
 
   -- Behind it the edited tree stands, and nothing is pending.
   pub done_commit : (current_tree (then_all o (commit_calls steps fs journal hs)) ≡ new) × IsDurable (then_all o (commit_calls steps fs journal hs))
-  done_commit = subst (λ (h : History). (current_tree h ≡ new) × IsDurable h) (sym is_all) (done_finish steps old new nodes leads hs fits.cleans o h2 gone.ready)
+  done_commit = subst (λ (h : History). (current_tree h ≡ new) × IsDurable h) (sym is_all) (done_finish (IsWritten steps) steps old new nodes leads hs fits.cleans o h2 gone.ready)

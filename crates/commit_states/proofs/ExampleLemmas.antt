@@ -19,8 +19,8 @@ use Rattle.commit_journal.proofs.GrammarLemmas.{journal_spells}
 use Rattle.step_trees.specs.Groups.{groups}
 use Rattle.step_trees.specs.Leads.{LeadsFrom}
 use Rattle.step_trees.proofs.NameLemmas.{initial, differ, are_names}
-use Rattle.commit_states.specs.Interrupted.{max_journal_bytes}
-use Rattle.commit_states.specs.Fits.{Fits, IsWritten, edited_by}
+use Rattle.commit_states.specs.Interrupted.{max_journal_bytes, IsWritten}
+use Rattle.commit_states.specs.Fits.{Fits, edited_by}
 use Rattle.commit_states.proofs.OwnNames.{staging_names, ascii_by}
 
 abbrev steps : List Step

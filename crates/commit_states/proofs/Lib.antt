@@ -21,3 +21,6 @@ pub mod ReadLemmas
 pub mod FreshLemmas
 pub mod ReadNameLemmas
 pub mod RecoverLemmas
+pub mod TextLemmas
+pub mod MarkerLemmas
+pub mod PlaceLemmas

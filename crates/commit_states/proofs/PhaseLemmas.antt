@@ -20,7 +20,7 @@ use Rattle.step_trees.proofs.LeadLemmas.{Led, led, Based, entries_at, based_at}
 use Rattle.step_trees.proofs.GroupLemmas.{Free}
 use Rattle.step_trees.proofs.PlaceLemmas.{cut_at, from_last_cut-zero}
 use Rattle.step_trees.proofs.LawLemmas.{free_at}
-use Rattle.commit_states.specs.Interrupted.{IsOne, JournalAt, StandsAs, IsInterrupted, nothing_staged, no_journal, forward, back, behind_seal, all_undone}
+use Rattle.commit_states.specs.Interrupted.{IsOne, JournalAt, StandsAs, AreJournals, IsInterruptedBy, nothing_staged, no_journal, forward, back, behind_seal, all_undone}
 use Rattle.commit_states.specs.Phases.{Phase, Unstaged, Filling, Forward, Back, Sealed, Undone, phase_of, HasJournal}
 use Rattle.commit_states.proofs.StandLemmas.{staging_as, absent_as}
 use Rattle.commit_states.proofs.WithinLemmas.{based_comes}
@@ -53,7 +53,7 @@ absent_by t Q x only none = by_node (get t (staged x)) refl
     by_node None e = ap is_some e
     by_node (Some node) e = absurd (none node (only x node e))
 
-plan_sealed : plan ≢ sealed
+pub plan_sealed : plan ≢ sealed
 plan_sealed = differ plan sealed 112 100 i-plan i-sealed refl
 
 plan_undone : plan ≢ undone
@@ -62,13 +62,13 @@ plan_undone = differ plan undone 112 117 i-plan i-undone refl
 sealed_undone : sealed ≢ undone
 sealed_undone = differ sealed undone 100 117 i-sealed i-undone refl
 
-plan_at : (m : ℕ) → plan ≢ at_marker m
+pub plan_at : (m : ℕ) → plan ≢ at_marker m
 plan_at m = differ plan (at_marker m) 112 97 i-plan (i-at m) refl
 
 plan_back : (m : ℕ) → plan ≢ back_marker m
 plan_back m = differ plan (back_marker m) 112 98 i-plan (i-back m) refl
 
-sealed_at : (m : ℕ) → sealed ≢ at_marker m
+pub sealed_at : (m : ℕ) → sealed ≢ at_marker m
 sealed_at m = differ sealed (at_marker m) 100 97 i-sealed (i-at m) refl
 
 sealed_back : (m : ℕ) → sealed ≢ back_marker m
@@ -128,11 +128,11 @@ journal_name (Back m) = plan
 journal_name Sealed = sealed
 journal_name Undone = undone
 
-module _ (t : FileTree) (tree : IsTree t) (steps : List Step) (old new : FileTree) (fresh : List Node) where
-  led_by : Leads steps old new fresh → (marker : List ℕ) (u : FileTree) → StandsAs steps marker u t → Led steps old new fresh
-  led_by leads marker u s = led steps old new fresh leads s.journal.spelled.journal.journal.spelled.paths
+module _ (t : FileTree) (tree : IsTree t) (Text : List ℕ → Type 0) (steps : List Step) (are : AreJournals Text steps) (old new : FileTree) (fresh : List Node) where
+  pub led_by : Leads steps old new fresh → (marker : List ℕ) (u : FileTree) → StandsAs Text marker u t → Led steps old new fresh
+  led_by leads marker u s = led steps old new fresh leads (are s.journal.bytes s.journal.spelled).journal.journal.spelled.paths
 
-  based_forward : Led steps old new fresh → (m : ℕ) (u : FileTree) → m ≤ length steps → ComesBySome (to_next_cut m (groups steps)) (after (take m steps) (start old fresh)) u → Based u
+  pub based_forward : Led steps old new fresh → (m : ℕ) (u : FileTree) → m ≤ length steps → ComesBySome (to_next_cut m (groups steps)) (after (take m steps) (start old fresh)) u → Based u
   based_forward l m u le some = based_comes (to_next_cut m (groups steps)) (after (take m steps) (start old fresh)) u (entries_at steps old new fresh l m).tree (free_at steps old new fresh l m le) (based_at steps old new fresh l m) some
 
   free_back : Led steps old new fresh → (k m : ℕ) → m ≤ length steps → m ≡ k + length (from_last_cut m (groups steps)) → Free (from_last_cut m (groups steps)) (after (take k steps) (start old fresh))
@@ -142,12 +142,12 @@ module _ (t : FileTree) (tree : IsTree t) (steps : List Step) (old new : FileTre
   based_back : Led steps old new fresh → (k m : ℕ) (u : FileTree) → m ≤ length steps → m ≡ k + length (from_last_cut m (groups steps)) → ComesBySome (from_last_cut m (groups steps)) (after (take k steps) (start old fresh)) u → Based u
   based_back l k m u le cut some = based_comes (from_last_cut m (groups steps)) (after (take k steps) (start old fresh)) u (entries_at steps old new fresh l k).tree (free_back l k m le cut) (based_at steps old new fresh l k) some
 
-  shows_plan : (marker : List ℕ) (u : FileTree) → Based u → IsOwn marker → plan ≢ marker → sealed ≢ marker → undone ≢ marker → StandsAs steps marker u t → Shows t true true false false
+  shows_plan : (marker : List ℕ) (u : FileTree) → Based u → IsOwn marker → plan ≢ marker → sealed ≢ marker → undone ≢ marker → StandsAs Text marker u t → Shows t true true false false
   shows_plan marker u based own no_plan no_sealed no_undone s = record {
-    dir = dir_some (get t staging) (staging_as steps u based marker own no_plan t tree s);
+    dir = dir_some (get t staging) (staging_as Text u based marker own no_plan t tree s);
     planned = ap is_some s.journal.stands;
-    closed = ap is_some (absent_as steps u based marker own no_plan t tree s sealed own-sealed no_sealed (λ e. plan_sealed (sym e)));
-    back_again = ap is_some (absent_as steps u based marker own no_plan t tree s undone own-undone no_undone (λ e. plan_undone (sym e)));
+    closed = ap is_some (absent_as Text u based marker own no_plan t tree s sealed own-sealed no_sealed (λ e. plan_sealed (sym e)));
+    back_again = ap is_some (absent_as Text u based marker own no_plan t tree s undone own-undone no_undone (λ e. plan_undone (sym e)));
   }
 
   early_no : (x : List ℕ) → IsOwn x → x ≢ new_journal → x ≢ at_marker 0 → (node : Node) → IsOne new_journal x node ⊎ (IsOne (at_marker 0) x node ⊎ IsFresh x node) → ⊥
@@ -174,7 +174,7 @@ module _ (t : FileTree) (tree : IsTree t) (steps : List Step) (old new : FileTre
   }
 
   -- what stands tells the phase
-  phase_is : (r : IsInterrupted steps old new fresh t) → phase_of r ≡ told (is_some (get t staging)) (is_some (get t (staged plan))) (is_some (get t (staged sealed))) (is_some (get t (staged undone))) (phase_of r)
+  phase_is : (r : IsInterruptedBy Text steps old new fresh t) → phase_of r ≡ told (is_some (get t staging)) (is_some (get t (staged plan))) (is_some (get t (staged sealed))) (is_some (get t (staged undone))) (phase_of r)
   phase_is (nothing_staged none which) = told_by false false false false Unstaged (shows_none none)
   phase_is (no_journal dir only which) = told_by true false false false Filling record {
     dir = dir_some (get t staging) dir;
@@ -202,31 +202,31 @@ module _ (t : FileTree) (tree : IsTree t) (steps : List Step) (old new : FileTre
   no_plan_shown : {a b c d : Bool} {X : Type 0} → Shows t a b c d → b ≡ false → is_some (get t (staged plan)) ≡ true → X
   no_plan_shown s left_out stands = let e : true ≡ false = sym stands ∙ s.planned ∙ left_out in cc
 
-  planned_of : (r : IsInterrupted steps old new fresh t) → is_some (get t (staged plan)) ≡ true → Planned t (phase_of r)
+  planned_of : (r : IsInterruptedBy Text steps old new fresh t) → is_some (get t (staged plan)) ≡ true → Planned t (phase_of r)
   planned_of (nothing_staged none which) stands = no_plan_shown (shows_none none) refl stands
   planned_of (no_journal dir only which) stands = absurd (let e : true ≡ false = sym stands ∙ absent_by t _ plan only (early_no plan own-plan (differ plan new_journal 112 110 i-plan i-new refl) (plan_at 0)) in cc)
   planned_of (forward leads m u le some s) stands =
       let l = led_by leads (at_marker m) u s in
-      let few = s.journal.spelled.journal.journal.few in
+      let few = (are s.journal.bytes s.journal.spelled).journal.journal.few in
       record {
         marker = at_marker m;
         stands = s.marked;
-        others = absent_as steps u (based_forward l m u le some) (at_marker m) (own-at m) (plan_at m) t tree s;
+        others = absent_as Text u (based_forward l m u le some) (at_marker m) (own-at m) (plan_at m) t tree s;
         kind = inl (m, omega arith, refl, refl);
       }
   planned_of (back leads k m u le cut some s) stands =
       let l = led_by leads (back_marker m) u s in
-      let few = s.journal.spelled.journal.journal.few in
+      let few = (are s.journal.bytes s.journal.spelled).journal.journal.few in
       record {
         marker = back_marker m;
         stands = s.marked;
-        others = absent_as steps u (based_back l k m u le cut some) (back_marker m) (own-back m) (plan_back m) t tree s;
+        others = absent_as Text u (based_back l k m u le cut some) (back_marker m) (own-back m) (plan_back m) t tree s;
         kind = inr (m, omega arith, refl, refl);
       }
   planned_of (behind_seal leads dir journal only is) stands = absurd (let e : true ≡ false = sym stands ∙ absent_by t _ plan only (held_no plan own-plan plan_sealed (plan_at (length steps))) in cc)
   planned_of (all_undone leads dir journal only is) stands = absurd (let e : true ≡ false = sym stands ∙ absent_by t _ plan only (fresh_no plan own-plan plan_undone (plan_back 0)) in cc)
 
-  journal_of : (r : IsInterrupted steps old new fresh t) → HasJournal (phase_of r) → JournalAt t (journal_name (phase_of r)) steps
+  journal_of : (r : IsInterruptedBy Text steps old new fresh t) → HasJournal (phase_of r) → JournalAt Text t (journal_name (phase_of r))
   journal_of (nothing_staged none which) has = absurd has
   journal_of (no_journal dir only which) has = absurd has
   journal_of (forward leads m u le some s) has = s.journal
@@ -241,8 +241,8 @@ told_without true true d p q = refl
 told_without true false true p q = refl
 told_without true false false p q = refl
 
-module _ (t : FileTree) (tree : IsTree t) (steps also : List Step) (old new before edited : FileTree) (fresh other : List Node)
-    (r : IsInterrupted steps old new fresh t) (s : IsInterrupted also before edited other t) where
+module _ (t : FileTree) (tree : IsTree t) (Text Other : List ℕ → Type 0) (steps also : List Step) (are : AreJournals Text steps) (are_also : AreJournals Other also) (old new before edited : FileTree) (fresh other : List Node)
+    (r : IsInterruptedBy Text steps old new fresh t) (s : IsInterruptedBy Other also before edited other t) where
   abbrev a : Bool
   a = is_some (get t staging)
 
@@ -257,16 +257,18 @@ module _ (t : FileTree) (tree : IsTree t) (steps also : List Step) (old new befo
 
   pub one_phase : phase_of r ≡ phase_of s
   one_phase = ⊎_elim
-      (λ stands. one_kind t (phase_of r) (phase_of s) (planned_of t tree steps old new fresh r stands) (planned_of t tree also before edited other s stands))
+      (λ stands. one_kind t (phase_of r) (phase_of s) (planned_of t tree Text steps are old new fresh r stands) (planned_of t tree Other also are_also before edited other s stands))
       (λ none.
-      phase_is t tree steps old new fresh r ∙ ap (λ x. told a x c d (phase_of r)) none ∙ told_without a c d (phase_of r) (phase_of s) ∙ sym (ap (λ x. told a x c d (phase_of s)) none) ∙ sym (phase_is t tree also before edited other s))
+      phase_is t tree Text steps are old new fresh r ∙ ap (λ x. told a x c d (phase_of r)) none ∙ told_without a c d (phase_of r) (phase_of s) ∙ sym (ap (λ x. told a x c d (phase_of s)) none) ∙ sym (phase_is t tree Other also are_also before edited other s))
       (cases_Bool b)
 
   pub one_journal : HasJournal (phase_of r) → steps ≡ also
   one_journal has =
-      let mine = journal_of t tree steps old new fresh r has in
-      let theirs = journal_of t tree also before edited other s (subst HasJournal one_phase has) in
+      let mine = journal_of t tree Text steps are old new fresh r has in
+      let theirs = journal_of t tree Other also are_also before edited other s (subst HasJournal one_phase has) in
       let same : get t (staged (journal_name (phase_of r))) ≡ Some (File theirs.number theirs.bytes theirs.mode) = ap (λ p. get t (staged (journal_name p))) one_phase ∙ theirs.stands in
       let bytes : mine.bytes ≡ theirs.bytes = cc in
-      one_list mine.spelled.journal.version theirs.spelled.journal.version steps also mine.bytes mine.spelled.journal.journal
-      (subst (λ x. IsJournalOf theirs.spelled.journal.version also x) (sym bytes) theirs.spelled.journal.journal)
+      let mine_is = (are mine.bytes mine.spelled).journal in
+      let theirs_is = (are_also theirs.bytes theirs.spelled).journal in
+      one_list mine_is.version theirs_is.version steps also mine.bytes mine_is.journal
+      (subst (λ x. IsJournalOf theirs_is.version also x) (sym bytes) theirs_is.journal)

@@ -17,7 +17,7 @@ use Rattle.step_trees.specs.Entries.{rest, IsHeld, HoldsOnly}
 use Rattle.step_trees.specs.Steps.{after}
 use Rattle.step_trees.specs.Leads.{start, at_place, Leads}
 use Rattle.commit_states.specs.declared.held.Held.{Held}
-use Rattle.commit_states.specs.Interrupted.{IsInterrupted, nothing_staged, no_journal, forward, back, behind_seal, all_undone, ending}
+use Rattle.commit_states.specs.Interrupted.{AreJournals, IsInterruptedBy, nothing_staged, no_journal, forward, back, behind_seal, all_undone, ending}
 use Rattle.commit_states.specs.Calls.{Items, held_items, fresh_items, Cleans, CleansItems, unstage_calls}
 use Rattle.commit_states.specs.Stops.{IsEarly, IsStaging}
 use Rattle.commit_states.specs.Reads.{AreRead, files, items_in}
@@ -64,10 +64,10 @@ cleans_aside t only =
     let a = aside t only (names_in t staging) (names_read t).each in
     (a.list, held_suffice t only a.list (subst (AreRead t (λ name. ⊥)) (sym a.is) (names_read t)))
 
-module _ (steps : List Step) (old new : FileTree) (fresh : List Node) (began now : History) (tree : IsTree old) (absent : IsAbsent old staging) (few : length fresh ≤ 2 ^ 32)
-    (moments : LeavesOnly began now (IsInterrupted steps old new fresh)) (sound : IsSound now) where
+module _ (Text : List ℕ → Type 0) (steps : List Step) (are : AreJournals Text steps) (old new : FileTree) (fresh : List Node) (began now : History) (tree : IsTree old) (absent : IsAbsent old staging) (few : length fresh ≤ 2 ^ 32)
+    (moments : LeavesOnly began now (IsInterruptedBy Text steps old new fresh)) (sound : IsSound now) where
   abbrev P : FileTree → Type 0
-  P = IsInterrupted steps old new fresh
+  P = IsInterruptedBy Text steps old new fresh
 
   abbrev t : FileTree
   t = current_tree now
@@ -120,16 +120,16 @@ module _ (steps : List Step) (old new : FileTree) (fresh : List Node) (began now
   pub recover_from : (way : Bool) (r : P t) → Recovers (ending way r)
   recover_from way (nothing_staged none which) = recover_nothing (nothing_staged none which)
   recover_from way (no_journal dir only which) = recover_early dir only which (no_journal dir only which)
-  recover_from false (forward leads m u le some s) = (_, go_forward steps old new fresh (held_of leads).0 began now leads (held_of leads).1 record { m = m; u = u; le = le; comes = some; stands = s; moments = moments; sound = sound })
-  recover_from true (forward leads m u le some s) = (_, (halts_go_back steps old new fresh (fresh_for fresh) began now leads tree absent (cleans_start leads) record { m = m; u = u; le = le; comes = some; stands = s; moments = moments; sound = sound }).1)
-  recover_from way (back leads k m u le cut some s) = (_, turned_go_back steps old new fresh (fresh_for fresh) began now leads tree absent (cleans_start leads) record { k = k; m = m; u = u; le = le; cut = cut; comes = some; stands = s; moments = moments; sound = sound })
+  recover_from false (forward leads m u le some s) = (_, go_forward Text steps are old new fresh (held_of leads).0 began now leads (held_of leads).1 record { m = m; u = u; le = le; comes = some; stands = s; moments = moments; sound = sound })
+  recover_from true (forward leads m u le some s) = (_, (halts_go_back Text steps are old new fresh (fresh_for fresh) began now leads tree absent (cleans_start leads) record { m = m; u = u; le = le; comes = some; stands = s; moments = moments; sound = sound }).1)
+  recover_from way (back leads k m u le cut some s) = (_, turned_go_back Text steps are old new fresh (fresh_for fresh) began now leads tree absent (cleans_start leads) record { k = k; m = m; u = u; le = le; cut = cut; comes = some; stands = s; moments = moments; sound = sound })
   recover_from way (behind_seal leads dir journal only is) = (
     _,
-    seals_go_on steps old new fresh began now leads record { dir = dir; journal = journal; only = only; is = is; moments = moments; sound = sound } (others sealed)
+    seals_go_on Text steps are old new fresh began now leads record { dir = dir; journal = journal; only = only; is = is; moments = moments; sound = sound } (others sealed)
         (sealed_suffice t (length steps) only (others sealed) (others_read t sealed)),
   )
   recover_from way (all_undone leads dir journal only is) = (
     _,
-    undone_go_on steps old new fresh began now leads record { dir = dir; journal = journal; only = only; is = is; moments = moments; sound = sound } (others undone)
+    undone_go_on Text steps are old new fresh began now leads record { dir = dir; journal = journal; only = only; is = is; moments = moments; sound = sound } (others undone)
         (undone_suffice t only (others undone) (others_read t undone)),
   )

@@ -11,7 +11,7 @@ use Rattle.tree_core.proofs.Runs.{IsSafe, safe_append, then_all-append}
 use Rattle.commit_states.proofs.FinishLemmas.{safe_finish, done_finish}
 use Rattle.commit_states.proofs.LoopLemmas.{Ready, Gone, go, safe_both, ready_next}
 use Rattle.commit_states.specs.Calls.{resume_calls, marked_calls, calls_from, seal_calls, Cleans, cleaning_calls}
-use Rattle.commit_states.specs.Interrupted.{StandsAs, IsInterrupted, forward}
+use Rattle.commit_states.specs.Interrupted.{StandsAs, IsInterruptedBy, forward}
 use Rattle.commit_states.specs.declared.held.Held.{Held}
 use Rattle.commit_steps.specs.Staging.{staged, at_marker}
 use Rattle.commit_steps.specs.declared.step.Step.{Step}
@@ -28,34 +28,34 @@ use Rattle.tree_core.proofs.Sound.{sound_then}
 left_moved : (g : List Step) (t u : FileTree) (some : ComesBySome g t u) (f : List Step) (e : g ≡ f) → left_of f t u (subst (λ l. ComesBySome l t u) e some) ≡ left_of g t u some
 left_moved g t u some f e = path_j (λ l (p : g ≡ l). left_of l t u (subst (λ x. ComesBySome x t u) p some) ≡ left_of g t u some) (ap (left_of g t u) (subst_refl (λ x. ComesBySome x t u) some)) e
 
-module _ (steps : List Step) (old new : FileTree) (fresh : List Node) (leads : Led steps old new fresh) (few : length steps < 2 ^ 32) (o : History) where
+module _ (Text : List ℕ → Type 0) (steps : List Step) (old new : FileTree) (fresh : List Node) (leads : Led steps old new fresh) (few : length steps < 2 ^ 32) (o : History) where
   abbrev P : FileTree → Type 0
-  P = IsInterrupted steps old new fresh
+  P = IsInterruptedBy Text steps old new fresh
 
   abbrev place : ℕ → FileTree
   place k = after (take k steps) (start old fresh)
 
   -- what is left of the group of place m, and the groups behind it
   module _ (now : History) (m : ℕ) (i : Inside steps old new fresh leads m) (u : FileTree) (comes : ComesBySome i.g (place m) u)
-      (moments : LeavesOnly o now P) (durable : IsDurable now) (sound : IsSound now) (s : StandsAs steps (at_marker m) u (current_tree now)) where
+      (moments : LeavesOnly o now P) (durable : IsDurable now) (sound : IsSound now) (s : StandsAs Text (at_marker m) u (current_tree now)) where
     abbrev one : List Change
     one = marked_calls (left_of i.g (place m) u comes) (staged (at_marker m)) (staged (at_marker (m + length i.g)))
 
     abbrev pub resumed_calls : List Change
     resumed_calls = one ++ calls_from (m + length i.g) i.gs
 
-    gone : Gone steps old new fresh leads few o (then_all now one) (m + length i.g) i.gs
-    gone = go steps old new fresh leads few o i.gs (then_all now one) (m + length i.g) i.rest (ready_next steps old new fresh leads few o now m i.g i.stretch u comes moments durable sound s)
+    gone : Gone Text steps old new fresh leads few o (then_all now one) (m + length i.g) i.gs
+    gone = go Text steps old new fresh leads few o i.gs (then_all now one) (m + length i.g) i.rest (ready_next Text steps old new fresh leads few o now m i.g i.stretch u comes moments durable sound s)
 
     pub safe_resumed : IsSafe o P now resumed_calls
-    safe_resumed = safe_append o P now one (calls_from (m + length i.g) i.gs) (safe_both steps old new fresh leads few o now m i.g i.stretch u comes moments durable sound s) gone.safe
+    safe_resumed = safe_append o P now one (calls_from (m + length i.g) i.gs) (safe_both Text steps old new fresh leads few o now m i.g i.stretch u comes moments durable sound s) gone.safe
 
-    pub ready_resumed : Ready steps old new fresh o (then_all now resumed_calls) (length steps)
-    ready_resumed = subst (λ (h : History). Ready steps old new fresh o h (length steps)) (sym (then_all-append now one (calls_from (m + length i.g) i.gs))) gone.ready
+    pub ready_resumed : Ready Text steps old new fresh o (then_all now resumed_calls) (length steps)
+    ready_resumed = subst (λ (h : History). Ready Text steps old new fresh o h (length steps)) (sym (then_all-append now one (calls_from (m + length i.g) i.gs))) gone.ready
 
   -- The whole of it, behind a sync.
   module _ (now : History) (moments : LeavesOnly o now P) (sound : IsSound now) (hs : List Held) (cleans : Cleans hs (after (take (length steps) steps) (start old fresh)))
-      (m : ℕ) (u : FileTree) (le : m ≤ length steps) (comes : ComesBySome (to_next_cut m (groups steps)) (place m) u) (s : StandsAs steps (at_marker m) u (current_tree now)) where
+      (m : ℕ) (u : FileTree) (le : m ≤ length steps) (comes : ComesBySome (to_next_cut m (groups steps)) (place m) u) (s : StandsAs Text (at_marker m) u (current_tree now)) where
     abbrev synced : History
     synced = Then now call.Sync
 
@@ -70,7 +70,7 @@ module _ (steps : List Step) (old new : FileTree) (fresh : List Node) (leads : L
 
     record Resumed : Type 0 where
       pub safe : IsSafe o P synced (resume_calls steps m left)
-      pub ready : Ready steps old new fresh o (then_all synced (resume_calls steps m left)) (length steps)
+      pub ready : Ready Text steps old new fresh o (then_all synced (resume_calls steps m left)) (length steps)
 
     -- m lies before the end
     resumed_inside : m < length steps → Inside steps old new fresh leads m → Resumed
@@ -84,7 +84,7 @@ module _ (steps : List Step) (old new : FileTree) (fresh : List Node) (leads : L
         ∙ sym (cond-true (nat_lt m (length steps)) (marked_calls left (staged (at_marker m)) (staged (at_marker (m + length (to_next_cut m (groups steps))))) ++ calls_from (m + length (to_next_cut m (groups steps))) (whole_behind m (groups steps))) [] (lt-ltb m (length steps) lt)) in
         record {
           safe = subst (IsSafe o P synced) to (safe_resumed synced m i u some synced_moments (durable-sync now) synced_sound s);
-          ready = subst (λ (cs : List Change). Ready steps old new fresh o (then_all synced cs) (length steps)) to (ready_resumed synced m i u some synced_moments (durable-sync now) synced_sound s);
+          ready = subst (λ (cs : List Change). Ready Text steps old new fresh o (then_all synced cs) (length steps)) to (ready_resumed synced m i u some synced_moments (durable-sync now) synced_sound s);
         }
 
     -- m is the end
@@ -95,11 +95,11 @@ module _ (steps : List Step) (old new : FileTree) (fresh : List Node) (leads : L
         let to : [] ≡ resume_calls steps m left = sym (cond-false (nat_lt m (length steps)) (marked_calls left (staged (at_marker m)) (staged (at_marker (m + length (to_next_cut m (groups steps))))) ++ calls_from (m + length (to_next_cut m (groups steps))) (whole_behind m (groups steps))) [] (le-ltb m (length steps) (omega arith))) in
         record {
           safe = subst (IsSafe o P synced) to synced_moments;
-          ready = subst (λ (cs : List Change). Ready steps old new fresh o (then_all synced cs) (length steps)) to record {
+          ready = subst (λ (cs : List Change). Ready Text steps old new fresh o (then_all synced cs) (length steps)) to record {
             moments = synced_moments;
             durable = durable-sync now;
             sound = synced_sound;
-            stands = subst (λ n. StandsAs steps (at_marker n) (place n) (current_tree synced)) is (subst (λ v. StandsAs steps (at_marker m) v (current_tree synced)) u_is s);
+            stands = subst (λ n. StandsAs Text (at_marker n) (place n) (current_tree synced)) is (subst (λ v. StandsAs Text (at_marker m) v (current_tree synced)) u_is s);
           };
         }
 
@@ -118,10 +118,10 @@ module _ (steps : List Step) (old new : FileTree) (fresh : List Node) (leads : L
       moments,
       tt,
       safe_append o P synced (resume_calls steps m left) (seal_calls ++ cleaning_calls hs (length steps)) resumed.safe
-          (safe_finish steps old new fresh leads hs cleans o (then_all synced (resume_calls steps m left)) resumed.ready),
+          (safe_finish Text steps old new fresh leads hs cleans o (then_all synced (resume_calls steps m left)) resumed.ready),
     )
 
     -- Behind it the edited tree stands, and nothing is pending.
     pub done_forward : (current_tree (then_all synced forward_calls) ≡ new) × IsDurable (then_all synced forward_calls)
     done_forward = subst (λ (h : History). (current_tree h ≡ new) × IsDurable h) (sym (then_all-append synced (resume_calls steps m left) (seal_calls ++ cleaning_calls hs (length steps))))
-        (done_finish steps old new fresh leads hs cleans o (then_all synced (resume_calls steps m left)) resumed.ready)
+        (done_finish Text steps old new fresh leads hs cleans o (then_all synced (resume_calls steps m left)) resumed.ready)

@@ -16,7 +16,7 @@ use Rattle.commit_states.proofs.CloseLemmas.{can_seal, sealed_clearing, Clearing
 use Rattle.commit_states.proofs.CommitLemmas.{edited_by-none}
 use Rattle.commit_states.proofs.SealLemmas.{IsUndone, IsLastUndone, LastUndone, back0, undone_plan, plan_back0, undone_back0, FreshIn, less_fresh, carry_fresh, fresh_others, undone_gives, old_gives, start_only}
 use Rattle.commit_states.specs.Calls.{turn_place, CleansItems, fresh_items, removals_of, last_of, turn_calls, revoke_calls, clearing_calls, home_calls, end_calls}
-use Rattle.commit_states.specs.Interrupted.{StandsAs, StandsAfter, IsInterrupted, back, forward}
+use Rattle.commit_states.specs.Interrupted.{StandsAs, StandsAfter, IsInterruptedBy, back, forward}
 use Rattle.commit_steps.specs.Staging.{staging, staged, plan, undone, at_marker, back_marker}
 use Rattle.commit_steps.specs.declared.step.Step.{Step}
 use Rattle.step_trees.proofs.ChoiceLemmas.{taken_is}
@@ -29,17 +29,17 @@ use Rattle.step_trees.specs.Steps.{after}
 use Rattle.step_trees.proofs.LeadLemmas.{Led}
 use Rattle.commit_states.proofs.OwnNames.{undone_names}
 
-module _ (steps : List Step) (old new : FileTree) (nodes : List Node) (leads : Led steps old new nodes) (few : length steps < 2 ^ 32) (tree : IsTree old) (absent : IsAbsent old staging)
+module _ (Text : List ℕ → Type 0) (steps : List Step) (old new : FileTree) (nodes : List Node) (leads : Led steps old new nodes) (few : length steps < 2 ^ 32) (tree : IsTree old) (absent : IsAbsent old staging)
     (fs : List Fresh) (cleans : CleansItems (fresh_items 0 fs) (start old nodes)) (o : History) where
   abbrev P : FileTree → Type 0
-  P = IsInterrupted steps old new nodes
+  P = IsInterruptedBy Text steps old new nodes
 
   rest_start : rest (start old nodes) ≡ old
   rest_start = edited_by-none old nodes tree absent
 
   -- ---- from `back-0` on
 
-  module _ (h2 : History) (r : Returning steps old new nodes o h2 0) where
+  module _ (h2 : History) (r : Returning Text steps old new nodes o h2 0) where
     abbrev h3 : History
     h3 = then_all h2 revoke_calls
 
@@ -47,29 +47,29 @@ module _ (steps : List Step) (old new : FileTree) (nodes : List Node) (leads : L
     h4 = then_all h3 (removals_of (fresh_items 0 fs) back0 ++ call.Sync ∷ [])
 
     can3 : CanDo (call.Rename (staged plan) (staged undone)) (current_tree h2)
-    can3 = can_seal undone back0 own-undone (own-back 0) undone_plan plan_back0 undone_back0 steps old FreshIn less_fresh carry_fresh old new nodes leads undone_names 0 rest_start (start_only steps old new nodes leads tree absent) (current_tree h2) r.sound.tree r.stands
+    can3 = can_seal undone back0 own-undone (own-back 0) undone_plan plan_back0 undone_back0 Text steps old FreshIn less_fresh carry_fresh old new nodes leads undone_names 0 rest_start (start_only Text steps old new nodes leads tree absent) (current_tree h2) r.sound.tree r.stands
 
     abbrev u : FileTree
     u = renamed (current_tree h2) (staged plan) (staged undone)
 
-    clearing : Clearing undone back0 own-undone (own-back 0) undone_plan plan_back0 undone_back0 steps old FreshIn less_fresh (start old nodes) u (fresh_items 0 fs)
-    clearing = sealed_clearing undone back0 own-undone (own-back 0) undone_plan plan_back0 undone_back0 steps old FreshIn less_fresh carry_fresh old new nodes leads undone_names 0 rest_start (start_only steps old new nodes leads tree absent)
+    clearing : Clearing undone back0 own-undone (own-back 0) undone_plan plan_back0 undone_back0 Text steps old FreshIn less_fresh (start old nodes) u (fresh_items 0 fs)
+    clearing = sealed_clearing undone back0 own-undone (own-back 0) undone_plan plan_back0 undone_back0 Text steps old FreshIn less_fresh carry_fresh old new nodes leads undone_names 0 rest_start (start_only Text steps old new nodes leads tree absent)
         (current_tree h2) r.sound.tree r.stands (start old nodes) (fresh_items 0 fs) refl cleans
 
     safe3 : IsSafe o P h2 revoke_calls
-    safe3 = single_synced o P h2 (call.Rename (staged plan) (staged undone)) refl refl r.durable r.moments can3 (back_at steps old new nodes leads 0 (current_tree h2) (omega arith) r.stands) (undone_gives steps old new nodes leads u clearing.row)
+    safe3 = single_synced o P h2 (call.Rename (staged plan) (staged undone)) refl refl r.durable r.moments can3 (back_at Text steps old new nodes leads 0 (current_tree h2) (omega arith) r.stands) (undone_gives Text steps old new nodes leads u clearing.row)
 
     sound3 : IsSound h3
     sound3 = sound_all h2 revoke_calls r.sound (safe_can o P h2 revoke_calls safe3)
 
-    cleared : Cleared undone back0 own-undone (own-back 0) undone_plan plan_back0 undone_back0 steps old FreshIn less_fresh h3 (fresh_items 0 fs)
-    cleared = clear_all undone back0 own-undone (own-back 0) undone_plan plan_back0 undone_back0 steps old FreshIn less_fresh (fresh_items 0 fs) h3 (start old nodes) (fresh_others steps old fs 0) clearing
+    cleared : Cleared undone back0 own-undone (own-back 0) undone_plan plan_back0 undone_back0 Text steps old FreshIn less_fresh h3 (fresh_items 0 fs)
+    cleared = clear_all undone back0 own-undone (own-back 0) undone_plan plan_back0 undone_back0 Text steps old FreshIn less_fresh (fresh_items 0 fs) h3 (start old nodes) (fresh_others Text steps old fs 0) clearing
 
-    pending3 : Pending h3 (IsUndone steps old)
-    pending3 = pending-durable h3 (IsUndone steps old) (durable-sync (Then h2 (call.Rename (staged plan) (staged undone)))) sound3 clearing.row
+    pending3 : Pending h3 (IsUndone Text steps old)
+    pending3 = pending-durable h3 (IsUndone Text steps old) (durable-sync (Then h2 (call.Rename (staged plan) (staged undone)))) sound3 clearing.row
 
     safe4 : IsSafe o P h3 (removals_of (fresh_items 0 fs) back0 ++ call.Sync ∷ [])
-    safe4 = closed_synced o P (IsUndone steps old) h3 (removals_of (fresh_items 0 fs) back0) (undone_gives steps old new nodes leads) (safe_all o P h2 revoke_calls safe3) pending3 cleared.closed
+    safe4 = closed_synced o P (IsUndone Text steps old) h3 (removals_of (fresh_items 0 fs) back0) (undone_gives Text steps old new nodes leads) (safe_all o P h2 revoke_calls safe3) pending3 cleared.closed
 
     is_h4 : h4 ≡ Then (then_all h3 (removals_of (fresh_items 0 fs) back0)) call.Sync
     is_h4 = then_all-append h3 (removals_of (fresh_items 0 fs) back0) (call.Sync ∷ [])
@@ -77,14 +77,14 @@ module _ (steps : List Step) (old new : FileTree) (nodes : List Node) (leads : L
     sound4 : IsSound h4
     sound4 = sound_all h3 (removals_of (fresh_items 0 fs) back0 ++ call.Sync ∷ []) sound3 (safe_can o P h3 (removals_of (fresh_items 0 fs) back0 ++ call.Sync ∷ []) safe4)
 
-    last : LastUndone steps old (current_tree h4)
-    last = subst (λ (h : History). LastUndone steps old (current_tree h)) (sym is_h4) cleared.last
+    last : LastUndone Text steps old (current_tree h4)
+    last = subst (λ (h : History). LastUndone Text steps old (current_tree h)) (sym is_h4) cleared.last
 
     safe5 : IsSafe o P h4 (last_of undone ++ call.Sync ∷ [])
-    safe5 = closed_synced o P (IsLastUndone steps old) h4 (last_of undone) (old_gives steps old new nodes leads)
+    safe5 = closed_synced o P (IsLastUndone Text steps old) h4 (last_of undone) (old_gives Text steps old new nodes leads)
         (safe_all o P h3 (removals_of (fresh_items 0 fs) back0 ++ call.Sync ∷ []) safe4)
-        (pending-durable h4 (IsLastUndone steps old) (subst IsDurable (sym is_h4) (durable-sync (then_all h3 (removals_of (fresh_items 0 fs) back0)))) sound4 (inl last))
-        (closed_last undone back0 own-undone (own-back 0) undone_plan plan_back0 undone_back0 steps old FreshIn less_fresh h4 last sound4)
+        (pending-durable h4 (IsLastUndone Text steps old) (subst IsDurable (sym is_h4) (durable-sync (then_all h3 (removals_of (fresh_items 0 fs) back0)))) sound4 (inl last))
+        (closed_last undone back0 own-undone (own-back 0) undone_plan plan_back0 undone_back0 Text steps old FreshIn less_fresh h4 last sound4)
 
     pub safe_end : IsSafe o P h2 (revoke_calls ++ clearing_calls fs)
     safe_end = safe_append o P h2 revoke_calls (clearing_calls fs) safe3
@@ -95,7 +95,7 @@ module _ (steps : List Step) (old new : FileTree) (nodes : List Node) (leads : L
 
     pub old_again : (current_tree (then_all h2 (revoke_calls ++ clearing_calls fs)) ≡ old) × IsDurable (then_all h2 (revoke_calls ++ clearing_calls fs))
     old_again = subst (λ (h : History). (current_tree h ≡ old) × IsDurable h) (sym is_end)
-        ((all_gone undone back0 own-undone (own-back 0) undone_plan plan_back0 undone_back0 steps old FreshIn less_fresh h4 last sound4).1, durable-sync (then_all h4 (last_of undone)))
+        ((all_gone undone back0 own-undone (own-back 0) undone_plan plan_back0 undone_back0 Text steps old FreshIn less_fresh h4 last sound4).1, durable-sync (then_all h4 (last_of undone)))
 
   abbrev place : ℕ → FileTree
   place k = after (take k steps) (start old nodes)
@@ -103,12 +103,12 @@ module _ (steps : List Step) (old new : FileTree) (nodes : List Node) (leads : L
   -- ---- from `back-m` on, where any of the steps from the last cut to m are done
 
   module _ (now : History) (k m : ℕ) (u : FileTree) (le : m ≤ length steps) (cut : m ≡ k + length (from_last_cut m (groups steps))) (comes : ComesBySome (from_last_cut m (groups steps)) (place k) u)
-      (moments : LeavesOnly o now P) (durable : IsDurable now) (sound : IsSound now) (s : StandsAs steps (back_marker m) u (current_tree now)) where
+      (moments : LeavesOnly o now P) (durable : IsDurable now) (sound : IsSound now) (s : StandsAs Text (back_marker m) u (current_tree now)) where
     abbrev way : List Change
     way = home_calls steps m (taken_of (from_last_cut m (groups steps)) (place k) u comes)
 
-    came : Home steps old new nodes leads few o now k m u le cut comes moments durable sound s
-    came = home steps old new nodes leads few o now k m u le cut comes moments durable sound s
+    came : Home Text steps old new nodes leads few o now k m u le cut comes moments durable sound s
+    came = home Text steps old new nodes leads few o now k m u le cut comes moments durable sound s
 
     pub safe_way : IsSafe o P now (way ++ end_calls fs)
     safe_way = safe_append o P now way (end_calls fs) came.safe (safe_end (then_all now way) came.returning)
@@ -118,7 +118,7 @@ module _ (steps : List Step) (old new : FileTree) (nodes : List Node) (leads : L
 
   -- The whole of it, behind a sync.
   module _ (now : History) (moments : LeavesOnly o now P) (sound : IsSound now) (k m : ℕ) (u : FileTree) (le : m ≤ length steps) (cut : m ≡ k + length (from_last_cut m (groups steps)))
-      (comes : ComesBySome (from_last_cut m (groups steps)) (place k) u) (s : StandsAs steps (back_marker m) u (current_tree now)) where
+      (comes : ComesBySome (from_last_cut m (groups steps)) (place k) u) (s : StandsAs Text (back_marker m) u (current_tree now)) where
     abbrev synced : History
     synced = Then now call.Sync
 
@@ -147,13 +147,13 @@ module _ (steps : List Step) (old new : FileTree) (nodes : List Node) (leads : L
     pub cut : j ≡ k + length (from_last_cut j (groups steps))
     pub comes : ComesBySome (from_last_cut j (groups steps)) (place k) u
     pub safe : IsSafe o P now (turn_calls m j)
-    pub stands : StandsAs steps (back_marker j) u (current_tree (then_all now (turn_calls m j)))
+    pub stands : StandsAs Text (back_marker j) u (current_tree (then_all now (turn_calls m j)))
 
-  module _ (now : History) (m : ℕ) (u : FileTree) (moments : LeavesOnly o now P) (durable : IsDurable now) (sound : IsSound now) (s : StandsAs steps (at_marker m) u (current_tree now)) where
+  module _ (now : History) (m : ℕ) (u : FileTree) (moments : LeavesOnly o now P) (durable : IsDurable now) (sound : IsSound now) (s : StandsAs Text (at_marker m) u (current_tree now)) where
     turned_none : (taken : List Step) → m ≤ length steps → u ≡ place m → m ≡ turn_place steps m taken → Turned now m u taken
     turned_none taken le u_is m_is =
         let c = cut_of steps old new nodes leads m le in
-        let here : StandsAfter steps old nodes (at_marker m) m (current_tree now) = subst (λ v. StandsAs steps (at_marker m) v (current_tree now)) u_is s in
+        let here : StandsAfter Text steps old nodes (at_marker m) m (current_tree now) = subst (λ v. StandsAs Text (at_marker m) v (current_tree now)) u_is s in
         record {
           j = m;
           j_is = m_is;
@@ -161,8 +161,8 @@ module _ (steps : List Step) (old new : FileTree) (nodes : List Node) (leads : L
           le = le;
           cut = c.cut;
           comes = subst (ComesBySome (from_last_cut m (groups steps)) (place c.k)) (sym u_is) c.all;
-          safe = safe_turn steps old new nodes leads few o now m moments durable sound le here;
-          stands = subst (λ v. StandsAs steps (back_marker m) v (current_tree (then_all now (turn_calls m m)))) (sym u_is) (turned steps old new nodes leads few o now m moments durable sound le here);
+          safe = safe_turn Text steps old new nodes leads few o now m moments durable sound le here;
+          stands = subst (λ v. StandsAs Text (back_marker m) v (current_tree (then_all now (turn_calls m m)))) (sym u_is) (turned Text steps old new nodes leads few o now m moments durable sound le here);
         }
 
     turned_some : (x : Step) (xs : List Step) → Inside steps old new nodes leads m → ComesBySome (to_next_cut m (groups steps)) (place m) u → Turned now m u (x ∷ xs)
@@ -175,8 +175,8 @@ module _ (steps : List Step) (old new : FileTree) (nodes : List Node) (leads : L
           le = i.back.within;
           cut = sym (ap (λ l. i.from + length l) i.back.is);
           comes = subst (λ l. ComesBySome l (place i.from) u) (sym i.back.is) (i.widen u some);
-          safe = safe_turn_some steps old new nodes leads few o now m moments durable sound i u some s;
-          stands = some_turned steps old new nodes leads few o now m moments durable sound i u some s;
+          safe = safe_turn_some Text steps old new nodes leads few o now m moments durable sound i u some s;
+          stands = some_turned Text steps old new nodes leads few o now m moments durable sound i u some s;
         }
 
     -- where none was done the marker stays at m; else it goes to the next cut
@@ -225,7 +225,7 @@ module _ (steps : List Step) (old new : FileTree) (nodes : List Node) (leads : L
 
   -- The whole of it, behind a sync.
   module _ (now : History) (moments : LeavesOnly o now P) (sound : IsSound now) (m : ℕ) (u : FileTree) (le : m ≤ length steps) (comes : ComesBySome (to_next_cut m (groups steps)) (place m) u)
-      (s : StandsAs steps (at_marker m) u (current_tree now)) where
+      (s : StandsAs Text (at_marker m) u (current_tree now)) where
     abbrev at_synced : History
     at_synced = Then now call.Sync
 

@@ -11,7 +11,7 @@ use Rattle.tree_core.proofs.TreeLemmas.{absent_below}
 use Rattle.tree_core.proofs.Sound.{by_place, get-inserted_other}
 use Rattle.commit_states.proofs.CloseLemmas.{Sealed, Last, IsLast, AreOthers}
 use Rattle.commit_states.specs.Calls.{held_items, fresh_items}
-use Rattle.commit_states.specs.Interrupted.{IsInterrupted, nothing_staged, no_journal, behind_seal, all_undone}
+use Rattle.commit_states.specs.Interrupted.{IsInterruptedBy, nothing_staged, no_journal, behind_seal, all_undone}
 use Rattle.commit_states.specs.declared.held.Held.{Held}
 use Rattle.commit_steps.specs.Staging.{staging, staged, plan, sealed, undone, at_marker, back_marker, temporary, held, fresh_name}
 use Rattle.commit_steps.specs.declared.step.Step.{Step}
@@ -45,24 +45,24 @@ pub carry_held : (t u : FileTree) (name : List ℕ) (node : Node) → ((r : Name
 carry_held t u name node same h = record { number = h.number; small = h.small; named = h.named; kind = ⊎_elim (λ k. inl k) (λ empty. inr (λ child. same (child ∷ []) ∙ empty child)) h.kind }
 
 -- `done` stands, while the other names are removed, and then while it is removed itself
-abbrev pub IsSealed : List Step → FileTree → FileTree → Type 0
-IsSealed steps target = Sealed sealed (last_marker steps) own-sealed (own-last_marker steps) sealed_plan (plan-last_marker steps) (sealed-last_marker steps) steps target IsHeld less_held
+abbrev pub IsSealed : (List ℕ → Type 0) → List Step → FileTree → FileTree → Type 0
+IsSealed Text steps target = Sealed sealed (last_marker steps) own-sealed (own-last_marker steps) sealed_plan (plan-last_marker steps) (sealed-last_marker steps) Text steps target IsHeld less_held
 
-abbrev pub LastSealed : List Step → FileTree → FileTree → Type 0
-LastSealed steps target = Last sealed (last_marker steps) own-sealed (own-last_marker steps) sealed_plan (plan-last_marker steps) (sealed-last_marker steps) steps target IsHeld less_held
+abbrev pub LastSealed : (List ℕ → Type 0) → List Step → FileTree → FileTree → Type 0
+LastSealed Text steps target = Last sealed (last_marker steps) own-sealed (own-last_marker steps) sealed_plan (plan-last_marker steps) (sealed-last_marker steps) Text steps target IsHeld less_held
 
-abbrev pub IsLastSealed : List Step → FileTree → FileTree → Type 0
-IsLastSealed steps target = IsLast sealed (last_marker steps) own-sealed (own-last_marker steps) sealed_plan (plan-last_marker steps) (sealed-last_marker steps) steps target IsHeld less_held
+abbrev pub IsLastSealed : (List ℕ → Type 0) → List Step → FileTree → FileTree → Type 0
+IsLastSealed Text steps target = IsLast sealed (last_marker steps) own-sealed (own-last_marker steps) sealed_plan (plan-last_marker steps) (sealed-last_marker steps) Text steps target IsHeld less_held
 
-pub held_others : (steps : List Step) (target : FileTree) (hs : List Held) → AreOthers sealed (last_marker steps) own-sealed (own-last_marker steps) sealed_plan (plan-last_marker steps) (sealed-last_marker steps) steps target IsHeld less_held (held_items hs)
-held_others steps target [] = tt
-held_others steps target (h ∷ hs) = (λ e. not_held sealed h.number own-sealed (sym e), λ e. not_held (last_marker steps) h.number (own-last_marker steps) (sym e), held_others steps target hs)
+pub held_others : (Text : List ℕ → Type 0) (steps : List Step) (target : FileTree) (hs : List Held) → AreOthers sealed (last_marker steps) own-sealed (own-last_marker steps) sealed_plan (plan-last_marker steps) (sealed-last_marker steps) Text steps target IsHeld less_held (held_items hs)
+held_others Text steps target [] = tt
+held_others Text steps target (h ∷ hs) = (λ e. not_held sealed h.number own-sealed (sym e), λ e. not_held (last_marker steps) h.number (own-last_marker steps) (sym e), held_others Text steps target hs)
 
-module _ (steps : List Step) (old new : FileTree) (fresh : List Node) (leads : Led steps old new fresh) where
-  pub sealed_gives : (t : FileTree) → IsSealed steps new t → IsInterrupted steps old new fresh t
+module _ (Text : List ℕ → Type 0) (steps : List Step) (old new : FileTree) (fresh : List Node) (leads : Led steps old new fresh) where
+  pub sealed_gives : (t : FileTree) → IsSealed Text steps new t → IsInterruptedBy Text steps old new fresh t
   sealed_gives t s = behind_seal leads.leads s.dir s.journal s.only s.is
 
-  pub last_gives : (t : FileTree) → IsLastSealed steps new t → IsInterrupted steps old new fresh t
+  pub last_gives : (t : FileTree) → IsLastSealed Text steps new t → IsInterruptedBy Text steps old new fresh t
   last_gives t (inl l) = behind_seal leads.leads l.dir l.journal (λ name node e. inl (l.only name node e)) l.is
   last_gives t (inr (inl e)) = no_journal e.dir (λ name node is. absurd (e.only name node is)) (inr e.is)
   last_gives t (inr (inr gone)) = nothing_staged gone.0 (inr gone.1)
@@ -91,24 +91,24 @@ pub carry_fresh : (t u : FileTree) (name : List ℕ) (node : Node) → ((r : Nam
 carry_fresh t u name node same f = f
 
 -- the same of `undone`
-abbrev pub IsUndone : List Step → FileTree → FileTree → Type 0
-IsUndone steps target = Sealed undone back0 own-undone (own-back 0) undone_plan plan_back0 undone_back0 steps target FreshIn less_fresh
+abbrev pub IsUndone : (List ℕ → Type 0) → List Step → FileTree → FileTree → Type 0
+IsUndone Text steps target = Sealed undone back0 own-undone (own-back 0) undone_plan plan_back0 undone_back0 Text steps target FreshIn less_fresh
 
-abbrev pub LastUndone : List Step → FileTree → FileTree → Type 0
-LastUndone steps target = Last undone back0 own-undone (own-back 0) undone_plan plan_back0 undone_back0 steps target FreshIn less_fresh
+abbrev pub LastUndone : (List ℕ → Type 0) → List Step → FileTree → FileTree → Type 0
+LastUndone Text steps target = Last undone back0 own-undone (own-back 0) undone_plan plan_back0 undone_back0 Text steps target FreshIn less_fresh
 
-abbrev pub IsLastUndone : List Step → FileTree → FileTree → Type 0
-IsLastUndone steps target = IsLast undone back0 own-undone (own-back 0) undone_plan plan_back0 undone_back0 steps target FreshIn less_fresh
+abbrev pub IsLastUndone : (List ℕ → Type 0) → List Step → FileTree → FileTree → Type 0
+IsLastUndone Text steps target = IsLast undone back0 own-undone (own-back 0) undone_plan plan_back0 undone_back0 Text steps target FreshIn less_fresh
 
-pub fresh_others : (steps : List Step) (target : FileTree) (fs : List Fresh) (k : ℕ) → AreOthers undone back0 own-undone (own-back 0) undone_plan plan_back0 undone_back0 steps target FreshIn less_fresh (fresh_items k fs)
-fresh_others steps target [] k = tt
-fresh_others steps target (f ∷ fs) k = (λ e. not_fresh undone k own-undone (sym e), λ e. not_fresh back0 k (own-back 0) (sym e), fresh_others steps target fs (k + 1))
+pub fresh_others : (Text : List ℕ → Type 0) (steps : List Step) (target : FileTree) (fs : List Fresh) (k : ℕ) → AreOthers undone back0 own-undone (own-back 0) undone_plan plan_back0 undone_back0 Text steps target FreshIn less_fresh (fresh_items k fs)
+fresh_others Text steps target [] k = tt
+fresh_others Text steps target (f ∷ fs) k = (λ e. not_fresh undone k own-undone (sym e), λ e. not_fresh back0 k (own-back 0) (sym e), fresh_others Text steps target fs (k + 1))
 
-module _ (steps : List Step) (old new : FileTree) (fresh : List Node) (leads : Led steps old new fresh) where
-  pub undone_gives : (t : FileTree) → IsUndone steps old t → IsInterrupted steps old new fresh t
+module _ (Text : List ℕ → Type 0) (steps : List Step) (old new : FileTree) (fresh : List Node) (leads : Led steps old new fresh) where
+  pub undone_gives : (t : FileTree) → IsUndone Text steps old t → IsInterruptedBy Text steps old new fresh t
   undone_gives t s = all_undone leads.leads s.dir s.journal s.only s.is
 
-  pub old_gives : (t : FileTree) → IsLastUndone steps old t → IsInterrupted steps old new fresh t
+  pub old_gives : (t : FileTree) → IsLastUndone Text steps old t → IsInterruptedBy Text steps old new fresh t
   old_gives t (inl l) = all_undone leads.leads l.dir l.journal (λ name node e. inl (l.only name node e)) l.is
   old_gives t (inr (inl e)) = no_journal e.dir (λ name node is. absurd (e.only name node is)) (inl e.is)
   old_gives t (inr (inr gone)) = nothing_staged gone.0 (inl gone.1)

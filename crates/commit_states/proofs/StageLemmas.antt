@@ -19,8 +19,8 @@ use Rattle.tree_core.proofs.Moments.{durable-sync, pending-sync, Keeps, Pending,
 use Rattle.tree_core.proofs.Runs.{IsSafe, IsClosed, closed_failed, safe_failed, closed_append, closed_synced, closed_pending, closed_can, safe_append, safe_all, sound_all, single_synced, then_all-append}
 use Rattle.commit_states.proofs.LoopLemmas.{Ready, forward_at}
 use Rattle.commit_states.specs.Calls.{fresh_call, fresh_calls, node_or, fresh_node, fresh_nodes, number_behind, IsLawfulFresh, AreLawfulFresh, stage_calls, plan_calls}
-use Rattle.commit_states.specs.Interrupted.{bare, StandsAs, IsJournalText, StandsAfter, IsInterrupted, nothing_staged, no_journal}
-use Rattle.commit_steps.specs.Staging.{staging, staged, plan, new_journal, at_marker, fresh_name}
+use Rattle.commit_states.specs.Interrupted.{bare, JournalAt, StandsAs, StandsAfter, IsInterruptedBy, nothing_staged, no_journal}
+use Rattle.commit_steps.specs.Staging.{staging, staged, plan, sealed, undone, new_journal, at_marker, fresh_name}
 use Rattle.commit_steps.specs.declared.step.Step.{Step}
 use Rattle.step_trees.proofs.NameLemmas.{apart_staged, differ, i-plan, i-at, i-new, i-fresh, fresh_injects}
 use Rattle.step_trees.proofs.Without.{without-stood, without-comm, without-nothing, without-insert_in, without-insert_out, renamed-out, renamed-to, without-moved, IsClear}
@@ -33,10 +33,15 @@ use Rattle.step_trees.specs.Groups.{groups, to_next_cut}
 use Rattle.step_trees.proofs.ChoiceLemmas.{none_done}
 use Rattle.commit_states.specs.Stops.{IsEarly, Filling, IsStaging, Unplanned, Halted}
 use Rattle.commit_states.proofs.HaltLemmas.{split_failed}
+use Rattle.tree_core.specs.declared.node.CallName.TheVariants as name
+use Rattle.commit_states.specs.Places.{HasNoJournal}
+use Rattle.commit_states.proofs.PlaceLemmas.{closed_before}
+use Rattle.commit_states.proofs.StandLemmas.{staging_stands}
+use Rattle.step_trees.proofs.NameLemmas.{IsOwn, own-plan, own-sealed, own-undone, own-at, i-sealed, i-undone, not_fresh}
 
-pub staging_row : (steps : List Step) (old new : FileTree) (nodes : List Node) (t : FileTree) → IsStaging old t → IsInterrupted steps old new nodes t
-staging_row steps old new nodes t (inl none) = nothing_staged none.0 (inl none.1)
-staging_row steps old new nodes t (inr f) = no_journal f.dir f.only (inl f.is)
+pub staging_row : (Text : List ℕ → Type 0) (steps : List Step) (old new : FileTree) (nodes : List Node) (t : FileTree) → IsStaging old t → IsInterruptedBy Text steps old new nodes t
+staging_row Text steps old new nodes t (inl none) = nothing_staged none.0 (inl none.1)
+staging_row Text steps old new nodes t (inr f) = no_journal f.dir f.only (inl f.is)
 
 absent_dir : (t : FileTree) (p : Names) → IsAbsent t p → IsDir t p → ⊥
 absent_dir t p absent dir = let no : is_dir_node None ≡ true = ap is_dir_node (sym absent) ∙ dir in cc
@@ -162,6 +167,34 @@ module _ (old : FileTree) where
             ∙ ap (with_fresh (k + 1) (fresh_nodes old (number_behind x (next_number h)) fs)) is;
       }
 
+  -- a fresh entry failed
+  in_fresh : (fs : List Fresh) (h : History) (k : ℕ) (last : History) (before : FileTree) (first : CallName) → k + length fs ≤ 2 ^ 32 → AreLawfulFresh old fs → Filled (current_tree h) k
+      → FailedIn (fresh_calls k fs) h last before first → IsDir before staging
+  in_fresh [] h k last before first few lawful f failed = absurd failed
+  in_fresh (x ∷ fs) h k last before first few lawful f (inl here) = subst (λ t. IsDir t staging) (sym here.tree) f.dir
+  in_fresh (x ∷ fs) h k last before first few lawful f (inr more) =
+      let low : k < 2 ^ 32 = omega arith in
+      let is = fresh_done (current_tree h) (next_number h) k x lawful.0 f in
+      in_fresh fs (Then h (fresh_call (staged (fresh_name k)) x)) (k + 1) last before first (omega arith) lawful.1 (subst (λ t. Filled t (k + 1)) (sym is) (filled_more (current_tree h) k (fresh_node old (next_number h) x) low f)) more
+
+  none_early : (t : FileTree) (x : List ℕ) → Filling old t → IsOwn x → x ≢ new_journal → x ≢ at_marker 0 → IsAbsent t (staged x)
+  none_early t x f own no_new no_at = by_node (get t (staged x)) refl
+    where
+      by_node : (o : Option Node) → get t (staged x) ≡ o → IsAbsent t (staged x)
+      by_node None e = e
+      by_node (Some node) e = absurd (⊎_elim (λ o. no_new o.named) (λ more. ⊎_elim (λ o. no_at o.named) (λ g. not_fresh x g.number own g.named) more) (f.only x node e))
+
+  pub unnamed : (t : FileTree) → IsDir t staging → IsStaging old t → HasNoJournal t × (rest t ≡ old)
+  unnamed t dir (inl none) = absurd (absent_dir t staging none.0 dir)
+  unnamed t dir (inr f) = (
+    record {
+      no_plan = none_early t plan f own-plan (differ plan new_journal 112 110 i-plan i-new refl) (differ plan (at_marker 0) 112 97 i-plan (i-at 0) refl);
+      no_seal = none_early t sealed f own-sealed (differ sealed new_journal 100 110 i-sealed i-new refl) (differ sealed (at_marker 0) 100 97 i-sealed (i-at 0) refl);
+      no_undone = none_early t undone f own-undone (differ undone new_journal 117 110 i-undone i-new refl) (differ undone (at_marker 0) 117 97 i-undone (i-at 0) refl);
+    },
+    f.is,
+  )
+
 -- ---- the whole of it
 
 fresh_other : (nodes : List Node) (k : ℕ) (t : FileTree) (x : List ℕ) → ((j : ℕ) → x ≢ fresh_name j) → get (with_fresh k nodes t) (staged x) ≡ get t (staged x)
@@ -172,8 +205,8 @@ without-fresh : (nodes : List Node) (k : ℕ) (t : FileTree) (x : List ℕ) → 
 without-fresh [] k t x other = refl
 without-fresh (node ∷ nodes) k t x other = without-fresh nodes (k + 1) _ x other ∙ ap (with_fresh (k + 1) nodes) (without-insert_out (staged x) t (staged (fresh_name k)) node (apart_staged x (fresh_name k) (other k)).0)
 
-module _ (steps : List Step) (new : FileTree) (fs : List Fresh) (journal : List ℕ) (o : History) (durable : IsDurable o) (sound : IsSound o) (absent : IsAbsent (current_tree o) staging)
-    (lawful : AreLawfulFresh (current_tree o) fs) (few : length fs ≤ 2 ^ 32) (journal_is : IsJournalText steps journal) (leads : Led steps (current_tree o) new (fresh_nodes (current_tree o) (next_number o + 1) fs)) where
+module _ (Text : List ℕ → Type 0) (steps : List Step) (new : FileTree) (fs : List Fresh) (journal : List ℕ) (o : History) (durable : IsDurable o) (sound : IsSound o) (absent : IsAbsent (current_tree o) staging)
+    (lawful : AreLawfulFresh (current_tree o) fs) (few : length fs ≤ 2 ^ 32) (journal_is : Text journal) (leads : Led steps (current_tree o) new (fresh_nodes (current_tree o) (next_number o + 1) fs)) where
   abbrev old : FileTree
   old = current_tree o
 
@@ -181,7 +214,7 @@ module _ (steps : List Step) (new : FileTree) (fs : List Fresh) (journal : List 
   nodes = fresh_nodes old (next_number o + 1) fs
 
   abbrev P : FileTree → Type 0
-  P = IsInterrupted steps old new nodes
+  P = IsInterruptedBy Text steps old new nodes
 
   abbrev Q : FileTree → Type 0
   Q = IsStaging old
@@ -190,10 +223,10 @@ module _ (steps : List Step) (new : FileTree) (fs : List Fresh) (journal : List 
   now = Then o call.Sync
 
   pub first_moments : LeavesOnly o o P
-  first_moments = started-durable o P durable (staging_row steps old new nodes old (inl (absent, refl)))
+  first_moments = started-durable o P durable (staging_row Text steps old new nodes old (inl (absent, refl)))
 
   moments : LeavesOnly o now P
-  moments = goes_on-sync o o P first_moments (staging_row steps old new nodes old (inl (absent, refl)))
+  moments = goes_on-sync o o P first_moments (staging_row Text steps old new nodes old (inl (absent, refl)))
 
   sound_now : IsSound now
   sound_now = record { allowed = (tt, sound.allowed); tree = sound.tree; texts = sound.texts; above = sound.above }
@@ -272,7 +305,7 @@ module _ (steps : List Step) (new : FileTree) (fs : List Fresh) (journal : List 
       (refl, can_new, keeps_write old new_journal journal 0o600 (next_number filled) (λ b. inl record { named = refl; kind = tt }), tt)
 
   gives : (t : FileTree) → Q t → P t
-  gives t q = staging_row steps old new nodes t q
+  gives t q = staging_row Text steps old new nodes t q
 
   pub safe_stage : IsSafe o P now (stage_calls fs journal ++ call.Sync ∷ [])
   safe_stage = closed_synced o P Q now (stage_calls fs journal) gives moments pending closed
@@ -334,7 +367,7 @@ module _ (steps : List Step) (new : FileTree) (fs : List Fresh) (journal : List 
       ∙ without-fresh nodes 0 e0 at0 at0_fresh
       ∙ ap (with_fresh 0 nodes) (without-insert_in (staged at0) d (staged at0) [] _ (rest_below-same (staged at0)) ∙ without-nothing (staged at0) d (absent_below d sound_made.tree (staged at0) (d_none at0)))
 
-  pub planned : StandsAfter steps old nodes at0 0 z0
+  pub planned : StandsAfter Text steps old nodes at0 0 z0
   planned = record {
     journal = record { number = next_number filled; bytes = journal; mode = 0o600; stands = renamed-to y0 (staged new_journal) (staged plan) clear [] ∙ get-inserted x0 (staged new_journal) _; spelled = journal_is };
     marked = ap is_file_node (renamed-out y0 (staged new_journal) (staged plan) clear (staged at0)
@@ -346,7 +379,7 @@ module _ (steps : List Step) (new : FileTree) (fs : List Fresh) (journal : List 
   safe_plan = single_synced o P written (call.Rename (staged new_journal) (staged plan)) refl refl (durable-sync (Then filled (call.WriteFile (staged new_journal) journal 0o600)))
       (subst (λ (h : History). LeavesOnly o h P) is_written (safe_all o P now (stage_calls fs journal ++ call.Sync ∷ []) safe_stage)) can_plan
       (gives y0 (subst (λ (h : History). Q (current_tree h)) (then_all-append now front (call.WriteFile (staged new_journal) journal 0o600 ∷ [])) (closed_pending Q now (stage_calls fs journal) pending closed).now))
-      (forward_at steps old new nodes leads 0 z0 (omega arith) planned)
+      (forward_at Text steps old new nodes leads 0 z0 (omega arith) planned)
 
   abbrev ready : History
   ready = Then (Then written (call.Rename (staged new_journal) (staged plan))) call.Sync
@@ -357,8 +390,8 @@ module _ (steps : List Step) (new : FileTree) (fs : List Fresh) (journal : List 
   pub is_ready : then_all now ((stage_calls fs journal ++ call.Sync ∷ []) ++ plan_calls) ≡ ready
   is_ready = then_all-append now (stage_calls fs journal ++ call.Sync ∷ []) plan_calls ∙ ap (λ (h : History). then_all h plan_calls) is_written
 
-  pub first_ready : Ready steps old new nodes o (then_all now ((stage_calls fs journal ++ call.Sync ∷ []) ++ plan_calls)) 0
-  first_ready = subst (λ (h : History). Ready steps old new nodes o h 0) (sym is_ready) record {
+  pub first_ready : Ready Text steps old new nodes o (then_all now ((stage_calls fs journal ++ call.Sync ∷ []) ++ plan_calls)) 0
+  first_ready = subst (λ (h : History). Ready Text steps old new nodes o h 0) (sym is_ready) record {
     moments = safe_all o P written plan_calls safe_plan;
     durable = durable-sync (Then written (call.Rename (staged new_journal) (staged plan)));
     sound = sound_all written plan_calls sound_written (can_plan, (tt, tt));
@@ -367,17 +400,17 @@ module _ (steps : List Step) (new : FileTree) (fs : List Fresh) (journal : List 
 
   -- ---- where a call of the staging failed
 
-  unplanned : (x : History) → LeavesOnly o x P → Pending x Q → Unplanned steps old new nodes old o x
+  unplanned : (x : History) → LeavesOnly o x P → Pending x Q → Unplanned Text steps old new nodes old o x
   unplanned x left p = record { moments = left; sound = p.sound; reads = p.now; each = p.each }
 
-  no_step : (x y : History) → x ≡ y → current_tree y ≡ z0 → IsSound y → LeavesOnly o x P → (h : Halted steps old new nodes o x) × (h.m ≡ 0)
+  no_step : (x y : History) → x ≡ y → current_tree y ≡ z0 → IsSound y → LeavesOnly o x P → (h : Halted Text steps old new nodes o x) × (h.m ≡ 0)
   no_step x y is same sound_y left = (
     record {
       m = 0;
       u = start old nodes;
       le = omega arith;
       comes = none_done (to_next_cut 0 (groups steps)) (start old nodes);
-      stands = subst (StandsAs steps at0 (start old nodes)) (sym (ap current_tree is ∙ same)) planned;
+      stands = subst (StandsAs Text at0 (start old nodes)) (sym (ap current_tree is ∙ same)) planned;
       moments = left;
       sound = subst IsSound (sym is) sound_y;
     },
@@ -401,7 +434,7 @@ module _ (steps : List Step) (new : FileTree) (fs : List Fresh) (journal : List 
 
   module _ (last : History) (before : FileTree) (first : CallName) (left : LeavesOnly o last P) where
     abbrev Stops : Type 0
-    Stops = Unplanned steps old new nodes old o last ⊎ ((h : Halted steps old new nodes o last) × (h.m ≡ 0))
+    Stops = Unplanned Text steps old new nodes old o last ⊎ ((h : Halted Text steps old new nodes o last) × (h.m ≡ 0))
 
     at : (x : History) → last ≡ x → Pending x Q → Stops
     at x is p = inl (unplanned last left (subst (λ (y : History). Pending y Q) (sym is) p))
@@ -422,5 +455,48 @@ module _ (steps : List Step) (new : FileTree) (fs : List Fresh) (journal : List 
         (split_failed (stage_calls fs journal ++ call.Sync ∷ []) plan_calls now last before first failed)
 
   pub failed_staging : (last : History) (before : FileTree) (first : CallName) → FailedIn ((stage_calls fs journal ++ call.Sync ∷ []) ++ plan_calls) now last before first
-      → Unplanned steps old new nodes old o last ⊎ ((h : Halted steps old new nodes o last) × (h.m ≡ 0))
+      → Unplanned Text steps old new nodes old o last ⊎ ((h : Halted Text steps old new nodes o last) × (h.m ≡ 0))
   failed_staging last before first failed = by_parts last before first (safe_failed o P now last before first ((stage_calls fs journal ++ call.Sync ∷ []) ++ plan_calls) safe_planned failed) failed
+
+  -- ---- the tree before the call
+
+  module _ (last : History) (before : FileTree) (first : CallName) where
+    abbrev First : Type 0
+    First = ((first ≡ name.MakeDir) × (before ≡ old)) ⊎ IsDir before staging
+
+    in_front : FailedIn front now last before first → First
+    in_front (inl f) = inl (f.named, f.tree)
+    in_front (inr (inl f)) = inr (subst (λ t. IsDir t staging) (sym f.tree) d_dir)
+    in_front (inr (inr more)) = inr (in_fresh old fs begun 0 last before first (omega arith) lawful e_filled more)
+
+    in_stage : FailedIn (stage_calls fs journal ++ call.Sync ∷ []) now last before first → First
+    in_stage failed = ⊎_elim
+        (λ one. ⊎_elim in_front at_new (split_failed front (call.WriteFile (staged new_journal) journal 0o600 ∷ []) now last before first one))
+        at_sync (split_failed (stage_calls fs journal) (call.Sync ∷ []) now last before first failed)
+      where
+        at_new : FailedIn (call.WriteFile (staged new_journal) journal 0o600 ∷ []) filled last before first → First
+        at_new (inl f) = inr (subst (λ t. IsDir t staging) (sym f.tree) entered.filled.dir)
+        at_new (inr nothing) = absurd nothing
+
+        at_sync : FailedIn (call.Sync ∷ []) (then_all now (stage_calls fs journal)) last before first → First
+        at_sync (inl f) = inr (subst (λ t. IsDir t staging) (sym (f.tree ∙ ap current_tree (then_all-append now front (call.WriteFile (staged new_journal) journal 0o600 ∷ [])))) can_plan.parent_is_dir)
+        at_sync (inr nothing) = absurd nothing
+
+    abbrev Place : Type 0
+    Place = ((first ≡ name.MakeDir) × (before ≡ old)) ⊎ (IsDir before staging × (JournalAt Text before plan ⊎ (HasNoJournal before × (rest before ≡ old))))
+
+    staged_place : FailedIn (stage_calls fs journal ++ call.Sync ∷ []) now last before first → Place
+    staged_place failed =
+        let p = closed_before Q now last before first (stage_calls fs journal) pending closed failed in
+        ⊎_elim (λ k. inl k) (λ dir. inr (dir, inr (unnamed old before dir (subst Q (sym p.2) (p.1).now)))) (in_stage failed)
+
+    plan_place : FailedIn plan_calls written last before first → Place
+    plan_place (inl f) = inr (subst (λ t. IsDir t staging × (JournalAt Text t plan ⊎ (HasNoJournal t × (rest t ≡ old)))) (sym f.tree) (can_plan.parent_is_dir, inr (unnamed old y0 can_plan.parent_is_dir pending_written.now)))
+    plan_place (inr (inl f)) = inr (subst (λ t. IsDir t staging × (JournalAt Text t plan ⊎ (HasNoJournal t × (rest t ≡ old)))) (sym f.tree)
+        (staging_stands Text steps old new nodes leads at0 (own-at 0) (differ plan at0 112 97 i-plan (i-at 0) refl) 0 z0 sound_named.tree planned, inl planned.journal))
+    plan_place (inr (inr nothing)) = absurd nothing
+
+    pub staging_place : FailedIn ((stage_calls fs journal ++ call.Sync ∷ []) ++ plan_calls) now last before first → Place
+    staging_place failed = ⊎_elim staged_place
+        (λ two. plan_place (subst (λ (h : History). FailedIn plan_calls h last before first) is_written two))
+        (split_failed (stage_calls fs journal ++ call.Sync ∷ []) plan_calls now last before first failed)

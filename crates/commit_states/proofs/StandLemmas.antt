@@ -29,12 +29,12 @@ before_bare journal marker s t own also lawful before =
     before_stood (staged marker) s t (apart_lawful marker s also lawful) (before_stood (staged journal) s (without (staged marker) t) (apart_lawful journal s own lawful) before)
 
 -- a journal is a file of its bytes
-pub journal_kept : (t u : FileTree) (name other : List ℕ) (steps : List Step) (j : JournalAt t name steps) → FileAt u (staged other) j.number j.bytes → JournalAt u other steps
-journal_kept t u name other steps j file = record { number = j.number; bytes = j.bytes; mode = file.mode; stands = file.is; spelled = j.spelled }
+pub journal_kept : (Text : List ℕ → Type 0) (t u : FileTree) (name other : List ℕ) (j : JournalAt Text t name) → FileAt u (staged other) j.number j.bytes → JournalAt Text u other
+journal_kept Text t u name other j file = record { number = j.number; bytes = j.bytes; mode = file.mode; stands = file.is; spelled = j.spelled }
 
 -- ---- the tree with its journal and marker, which is u without them
 
-module _ (steps : List Step) (u : FileTree) (based : Based u) (marker : List ℕ) (own : IsOwn marker) (other : plan ≢ marker) (t : FileTree) (tree : IsTree t) (s : StandsAs steps marker u t) where
+module _ (Text : List ℕ → Type 0) (u : FileTree) (based : Based u) (marker : List ℕ) (own : IsOwn marker) (other : plan ≢ marker) (t : FileTree) (tree : IsTree t) (s : StandsAs Text marker u t) where
   pub staging_as : IsDir t staging
   staging_as = dir_stood (staged marker) t staging (dir_stood (staged plan) (without (staged marker) t) staging (subst (λ x. IsDir x staging) (sym s.bare_is) based.stands))
 
@@ -59,9 +59,9 @@ module _ (steps : List Step) (u : FileTree) (based : Based u) (marker : List ℕ
     pub can_as : IsBefore step u → CanDo (call_of step) t
     can_as before = can_step step t lawful (before_bare plan marker step t own-plan own lawful (subst (IsBefore step) (sym s.bare_is) before))
 
-    pub step_as : CanDo (call_of step) t → StandsAs steps marker (step_done step u) (done (call_of step) n t)
+    pub step_as : CanDo (call_of step) t → StandsAs Text marker (step_done step u) (done (call_of step) n t)
     step_as can = record {
-      journal = journal_kept t _ plan plan steps s.journal (step-file step n t (staged plan) _ _ (apart_lawful plan step own-plan lawful) (clear_step step t tree can) journal_file);
+      journal = journal_kept Text t _ plan plan s.journal (step-file step n t (staged plan) _ _ (apart_lawful plan step own-plan lawful) (clear_step step t tree can) journal_file);
       marked = is_file _ _ _ _ (step-file step n t (staged marker) _ _ (apart_lawful marker step own lawful) (clear_step step t tree can) marker_file.file);
       bare_is = step-bare plan marker step n t own-plan own lawful (clear_step step t tree can) ∙ ap (step_done step) s.bare_is;
     }
@@ -81,9 +81,9 @@ module _ (steps : List Step) (u : FileTree) (based : Based u) (marker : List ℕ
     clear_next : IsClear t (staged next)
     clear_next = absent_below t tree (staged next) can_mark.absent
 
-    pub stands_marked : StandsAs steps next u (renamed t (staged marker) (staged next))
+    pub stands_marked : StandsAs Text next u (renamed t (staged marker) (staged next))
     stands_marked = record {
-      journal = journal_kept t _ plan plan steps s.journal record {
+      journal = journal_kept Text t _ plan plan s.journal record {
         mode = s.journal.mode;
         is = renamed-out t (staged marker) (staged next) clear_next (staged plan) (apart_staged next plan no_plan).0 (apart_staged marker plan (λ e. other (sym e))).0 ∙ s.journal.stands;
       };
@@ -92,12 +92,12 @@ module _ (steps : List Step) (u : FileTree) (based : Based u) (marker : List ℕ
     }
 
 -- where j steps are done
-module _ (steps : List Step) (old new : FileTree) (fresh : List Node) (leads : Led steps old new fresh) (marker : List ℕ) (own : IsOwn marker) (other : plan ≢ marker) (j : ℕ) (t : FileTree) (tree : IsTree t) (s : StandsAfter steps old fresh marker j t) where
+module _ (Text : List ℕ → Type 0) (steps : List Step) (old new : FileTree) (fresh : List Node) (leads : Led steps old new fresh) (marker : List ℕ) (own : IsOwn marker) (other : plan ≢ marker) (j : ℕ) (t : FileTree) (tree : IsTree t) (s : StandsAfter Text steps old fresh marker j t) where
   pub staging_stands : IsDir t staging
-  staging_stands = staging_as steps _ (based_at steps old new fresh leads j) marker own other t tree s
+  staging_stands = staging_as Text _ (based_at steps old new fresh leads j) marker own other t tree s
 
   pub shown_bare : (name : List ℕ) (r : Names) → name ≢ marker → name ≢ plan → get t (staged name ++ r) ≡ get (after (take j steps) (start old fresh)) (staged name ++ r)
-  shown_bare name r no_marker no_plan = shown_as steps _ (based_at steps old new fresh leads j) marker own other t tree s name r no_marker no_plan
+  shown_bare name r no_marker no_plan = shown_as Text _ (based_at steps old new fresh leads j) marker own other t tree s name r no_marker no_plan
 
   pub absent_own : (name : List ℕ) → IsOwn name → name ≢ marker → name ≢ plan → IsAbsent t (staged name)
-  absent_own name own_name no_marker no_plan = absent_as steps _ (based_at steps old new fresh leads j) marker own other t tree s name own_name no_marker no_plan
+  absent_own name own_name no_marker no_plan = absent_as Text _ (based_at steps old new fresh leads j) marker own other t tree s name own_name no_marker no_plan

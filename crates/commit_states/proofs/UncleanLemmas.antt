@@ -1,5 +1,5 @@
 -- A commit that is sealed but not clean: forward recovery of every tree that a crash may leave ends with the edited one.
-use Rattle.std.proofs.Common.{inl, inr, List, ◌++◌, length, take, refl, arith}
+use Rattle.std.proofs.Common.{inl, inr, ℕ, List, ◌++◌, length, take, refl, arith}
 use Rattle.tree_core.specs.declared.node.Node.{Node}
 use Rattle.tree_core.specs.declared.node.CallName.{CallName}
 use Rattle.tree_core.specs.FileTree.{FileTree}
@@ -19,24 +19,24 @@ use Rattle.step_trees.specs.Leads.{start}
 use Rattle.step_trees.specs.Steps.{after}
 use Rattle.step_trees.proofs.LeadLemmas.{Led}
 
-module _ (steps : List Step) (old new : FileTree) (nodes : List Node) (leads : Led steps old new nodes) (hs : List Held) (cleans : Cleans hs (after (take (length steps) steps) (start old nodes)))
-    (o h2 : History) (r : Ready steps old new nodes o h2 (length steps)) where
+module _ (Text : List ℕ → Type 0) (steps : List Step) (old new : FileTree) (nodes : List Node) (leads : Led steps old new nodes) (hs : List Held) (cleans : Cleans hs (after (take (length steps) steps) (start old nodes)))
+    (o h2 : History) (r : Ready Text steps old new nodes o h2 (length steps)) where
   abbrev F : FileTree → Type 0
-  F = GoesForward steps old new nodes
+  F = GoesForward Text steps old new nodes
 
-  at_plan : (t : FileTree) → StandsAfter steps old nodes (at_marker (length steps)) (length steps) t → F t
-  at_plan t s = (forward_at steps old new nodes leads (length steps) t (omega arith) s, refl)
+  at_plan : (t : FileTree) → StandsAfter Text steps old nodes (at_marker (length steps)) (length steps) t → F t
+  at_plan t s = (forward_at Text steps old new nodes leads (length steps) t (omega arith) s, refl)
 
-  at_sealed : (t : FileTree) → IsSealed steps new t → F t
+  at_sealed : (t : FileTree) → IsSealed Text steps new t → F t
   at_sealed t s = (behind_seal leads.leads s.dir s.journal s.only s.is, refl)
 
-  at_last : (t : FileTree) → IsLastSealed steps new t → F t
+  at_last : (t : FileTree) → IsLastSealed Text steps new t → F t
   at_last t (inl l) = (behind_seal leads.leads l.dir l.journal (λ name node e. inl (l.only name node e)) l.is, refl)
   at_last t (inr (inl e)) = (no_journal e.dir (λ name node is. absurd (e.only name node is)) (inr e.is), e.is)
   at_last t (inr (inr gone)) = (nothing_staged gone.0 (inr gone.1), gone.1)
 
   safe : IsSafe h2 F h2 (seal_calls ++ cleaning_calls hs (length steps))
-  safe = safe_finish_as steps old new nodes leads hs cleans F at_plan at_sealed at_last h2 h2 (started-durable h2 F r.durable (at_plan (current_tree h2) r.stands)) r.durable r.sound r.stands
+  safe = safe_finish_as Text steps old new nodes leads hs cleans F at_plan at_sealed at_last h2 h2 (started-durable h2 F r.durable (at_plan (current_tree h2) r.stands)) r.durable r.sound r.stands
 
   pub unclean : (last : History) (before : FileTree) (first : CallName) → FailedIn (seal_calls ++ cleaning_calls hs (length steps)) h2 last before first → (c : FileTree) → IsCrashState last c → F c
   unclean last before first failed c left = let moments = safe_failed h2 F h2 last before first (seal_calls ++ cleaning_calls hs (length steps)) safe failed in moments.each c (counts_now (clock h2) last c left)

@@ -95,12 +95,12 @@ lawful_of s (u ∷ g) t free (inr more) = lawful_of s g t free.3 more
 
 -- ---- a group, done or undone under a marker
 
-module _ (steps : List Step) (a : FileTree) (g : List Step) (tree_a : IsTree a) (free : Free g a) (based_a : Based a) (marker : List ℕ) (own : IsOwn marker) (other : plan ≢ marker) where
+module _ (Text : List ℕ → Type 0) (a : FileTree) (g : List Step) (tree_a : IsTree a) (free : Free g a) (based_a : Based a) (marker : List ℕ) (own : IsOwn marker) (other : plan ≢ marker) where
   -- any of the steps of the group are done
   pub record Amid (t : FileTree) : Type 0 where
     pub u : FileTree
     pub comes : ComesBySome g a u
-    pub stands : StandsAs steps marker u t
+    pub stands : StandsAs Text marker u t
 
   -- A call of the group, applied or left out, keeps that.
   pub keeps_done : (s : Step) → IsOf s g → (next : ℕ) → Keeps Amid (call_of s) next
@@ -110,7 +110,7 @@ module _ (steps : List Step) (a : FileTree) (g : List Step) (tree_a : IsTree a) 
       subst Amid (sym (applied-is (call_of s) next t c (no_write s) applied)) record {
         u = step_done s amid.u;
         comes = comes_done g a amid.u s tree_a free amid.comes of (subst (Tries s) amid.stands.bare_is (tries_bare marker s t (apart_lawful marker s own lawful) (apart_lawful plan s own-plan lawful) applied.can));
-        stands = step_as steps amid.u based marker own other t sound.tree amid.stands s next lawful applied.can;
+        stands = step_as Text amid.u based marker own other t sound.tree amid.stands s next lawful applied.can;
       }
 
   -- and so does one that undoes it
@@ -120,37 +120,37 @@ module _ (steps : List Step) (a : FileTree) (g : List Step) (tree_a : IsTree a) 
       subst Amid (sym (applied-is (undo_of s) next t c (undo_no_write s) applied)) record {
         u = done (undo_of s) 0 amid.u;
         comes = comes_undone g a amid.u s tree_a free amid.comes of (subst (TriesUndo s) amid.stands.bare_is (tries_undo_bare marker s t (apart_lawful marker s own lawful) (apart_lawful plan s own-plan lawful) applied.can));
-        stands = undo_as steps amid.u marker own t sound.tree amid.stands s next lawful applied.can;
+        stands = undo_as Text amid.u marker own t sound.tree amid.stands s next lawful applied.can;
       }
 
   -- some of them done, one after another
   pub record Did (ls : List Step) (h : History) (u : FileTree) : Type 0 where
     pub closed : IsClosed Amid h (do_calls ls)
-    pub stands : StandsAs steps marker (after ls u) (current_tree (then_all h (do_calls ls)))
+    pub stands : StandsAs Text marker (after ls u) (current_tree (then_all h (do_calls ls)))
 
-  pub do_all : (ls : List Step) (h : History) (u : FileTree) → ((s : Step) → IsOf s ls → IsOf s g) → IsTree u → Free ls u → Based u → IsSound h → StandsAs steps marker u (current_tree h) → Did ls h u
+  pub do_all : (ls : List Step) (h : History) (u : FileTree) → ((s : Step) → IsOf s ls → IsOf s g) → IsTree u → Free ls u → Based u → IsSound h → StandsAs Text marker u (current_tree h) → Did ls h u
   do_all [] h u part tree ready based sound s = record { closed = tt; stands = s }
   do_all (x ∷ ls) h u part tree ready based sound s =
-      let can = can_as steps u based marker own other (current_tree h) sound.tree s x 0 ready.0 ready.1 in
-      let next = step_as steps u based marker own other (current_tree h) sound.tree s x (next_number h) ready.0 can in
+      let can = can_as Text u based marker own other (current_tree h) sound.tree s x 0 ready.0 ready.1 in
+      let next = step_as Text u based marker own other (current_tree h) sound.tree s x (next_number h) ready.0 can in
       let more = do_all ls (Then h (call_of x)) (step_done x u) (λ v of. part v (inr of)) (tree_step x u tree ready.0 ready.1) (free_next x ls u tree ready) (based_step x u ready.0 (clear_before x u tree ready.1) based) (sound_then (call_of x) h sound can) next in
       record { closed = (no_sync x, can, keeps_done x (part x (inl refl)) (next_number h), more.closed); stands = more.stands }
 
   -- some of them undone, the last one first
   pub record Undid (ls : List Step) (h : History) (b : FileTree) : Type 0 where
     pub closed : IsClosed Amid h (undo_calls ls)
-    pub stands : StandsAs steps marker b (current_tree (then_all h (undo_calls ls)))
+    pub stands : StandsAs Text marker b (current_tree (then_all h (undo_calls ls)))
 
-  pub undo_all : (ls : List Step) (h : History) (b : FileTree) → ((s : Step) → IsOf s ls → IsOf s g) → IsTree b → Free ls b → IsSound h → StandsAs steps marker (after ls b) (current_tree h) → Undid ls h b
+  pub undo_all : (ls : List Step) (h : History) (b : FileTree) → ((s : Step) → IsOf s ls → IsOf s g) → IsTree b → Free ls b → IsSound h → StandsAs Text marker (after ls b) (current_tree h) → Undid ls h b
   undo_all [] h b part tree ready sound s = record { closed = tt; stands = s }
   undo_all (x ∷ ls) h b part tree ready sound s =
       let more = undo_all ls h (step_done x b) (λ v of. part v (inr of)) (tree_step x b tree ready.0 ready.1) (free_next x ls b tree ready) sound s in
       let mid = then_all h (undo_calls ls) in
       let sound_mid = sound_all h (undo_calls ls) sound (closed_can Amid h (undo_calls ls) more.closed) in
-      let can = can_undo_as steps (step_done x b) marker own (current_tree mid) sound_mid.tree more.stands x 0 ready.0 (can_undo x b tree ready.0 ready.1) in
-      let last = undo_as steps (step_done x b) marker own (current_tree mid) sound_mid.tree more.stands x (next_number mid) ready.0 can in
+      let can = can_undo_as Text (step_done x b) marker own (current_tree mid) sound_mid.tree more.stands x 0 ready.0 (can_undo x b tree ready.0 ready.1) in
+      let last = undo_as Text (step_done x b) marker own (current_tree mid) sound_mid.tree more.stands x (next_number mid) ready.0 can in
       record {
         closed = closed_append Amid h (undo_calls ls) (undo_of x ∷ []) more.closed (undo_no_sync x, can, keeps_undone x (part x (inl refl)) (next_number mid), tt);
-        stands = subst (λ (k : History). StandsAs steps marker b (current_tree k)) (sym (then_all-append h (undo_calls ls) (undo_of x ∷ [])))
-            (subst (λ v. StandsAs steps marker v (current_tree (Then mid (undo_of x)))) (undone_step x 0 b tree ready.0 ready.1) last);
+        stands = subst (λ (k : History). StandsAs Text marker b (current_tree k)) (sym (then_all-append h (undo_calls ls) (undo_of x ∷ [])))
+            (subst (λ v. StandsAs Text marker v (current_tree (Then mid (undo_of x)))) (undone_step x 0 b tree ready.0 ready.1) last);
       }

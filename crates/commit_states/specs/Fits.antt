@@ -5,19 +5,12 @@ use Rattle.tree_core.specs.declared.node.Node.{Node}
 use Rattle.tree_core.specs.FileTree.{FileTree, IsAbsent}
 use Rattle.commit_steps.specs.declared.step.Step.{Step}
 use Rattle.commit_steps.specs.Staging.{staging}
-use Rattle.commit_journal.specs.declared.version.Version.TheVariants.{Two}
-use Rattle.commit_journal.specs.Grammar.{IsJournalOf}
 use Rattle.step_trees.specs.Entries.{rest}
 use Rattle.step_trees.specs.Steps.{after}
 use Rattle.step_trees.specs.Leads.{start, at_place, Leads}
 use Rattle.commit_states.specs.declared.held.Held.{Held}
-use Rattle.commit_states.specs.Interrupted.{max_journal_bytes}
+use Rattle.commit_states.specs.Interrupted.{IsWritten}
 use Rattle.commit_states.specs.Calls.{fresh_nodes, AreLawfulFresh, Cleans}
-
--- what a commit writes: a journal of version 2, which is not too long to be read
-pub record IsWritten (steps : List Step) (bytes : List ℕ) : Type 0 where
-  pub journal : IsJournalOf Two steps bytes
-  pub short : length bytes ≤ max_journal_bytes
 
 -- Steps, fresh entries, journal and what is put aside, for a commit from old to new. `next` is the number of the next file.
 pub record Fits (steps : List Step) (fs : List Fresh) (journal : List ℕ) (hs : List Held) (new : FileTree) (old : FileTree) (next : ℕ) : Type 0 where

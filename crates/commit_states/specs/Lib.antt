@@ -5,3 +5,4 @@ pub mod Stops
 pub mod Laws
 pub mod Phases
 pub mod Reads
+pub mod Places

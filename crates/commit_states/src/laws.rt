@@ -2,17 +2,25 @@
 ghost use Rattle.commit_states.specs.Laws.{
   CommitsAreSafe,
   CommitsCanFit,
+  FailedGroupsHalt,
   FailedSealsGoForward,
+  FailedSealsHalt,
+  FailedSealsTellPlaces,
   FailedStagingsStop,
+  FailedStagingsTellPlaces,
   FailedStepsHalt,
+  FailedStepsTellPlaces,
   HaltsGoBack,
   HaltsGoForward,
+  HaltsShowNoSeal,
+  HaltsShowOneMarker,
   InterruptedTreesRecover,
   SealsGoForward,
   TurnedGoBack,
   UndoneGoBack,
   UnplannedGoBack,
   UnstagedGoBack,
+  WrittenAreInterrupted,
 };
 ghost use Rattle.commit_states.specs.Phases.{JournalsTell, RowsExclude};
 ghost use Rattle.commit_states.specs.Reads.{
@@ -48,6 +56,30 @@ pub fn failed_calls_leave_rows()
     ensures staging { FailedStagingsStop }
     ensures steps { FailedStepsHalt }
     ensures seal { FailedSealsGoForward }
+{}
+
+/// Which marker stands. Where a call of a group failed: that of the place before the group, or of the one behind it. Where the seal
+/// failed: the last one, unless `done` stands. Where a marker stands no other does, and nothing under `done`, so that one look tells.
+pub fn failed_calls_tell_markers()
+    ensures groups { FailedGroupsHalt }
+    ensures seal { FailedSealsHalt }
+    ensures no_seal { HaltsShowNoSeal }
+    ensures one_marker { HaltsShowOneMarker }
+{}
+
+/// The tree before a call that failed tells where the commit was. In the staging the
+/// old tree stood, or the staging directory with `plan` or without a journal. Among the groups `plan` stood. At the seal or behind it `done`
+/// stood, or no journal and the edited tree, or the call is the seal itself, and `plan` and the last marker stood.
+pub fn failed_calls_tell_places()
+    ensures staging { FailedStagingsTellPlaces }
+    ensures groups { FailedStepsTellPlaces }
+    ensures seal { FailedSealsTellPlaces }
+{}
+
+/// Where a journal stands in a tree that a commit may leave, it is of version 2, as the commit wrote it. Such a tree is an
+/// interrupted tree as recovery knows them, whose journal may be of either version.
+pub fn written_are_interrupted()
+    ensures { WrittenAreInterrupted }
 {}
 
 /// The way back, and recovery, where no journal has its name: the names are removed and then the directory, if it stands. A crash at

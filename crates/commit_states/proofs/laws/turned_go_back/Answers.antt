@@ -1,5 +1,7 @@
+use Rattle.commit_states.specs.Interrupted.{IsOfKind}
+use Rattle.commit_states.proofs.TextLemmas.{of_kind}
 use Rattle.commit_states.proofs.LawLemmas.{turned_go_back}
 use Rattle.commit_states.proofs.laws.turned_go_back.Goals as goal
 
 pub returns : goal.returns
-returns c = turned_go_back
+returns c = λ kind steps. turned_go_back (IsOfKind kind steps) steps (of_kind kind steps)
