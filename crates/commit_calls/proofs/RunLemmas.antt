@@ -9,13 +9,13 @@ use Rattle.tree_core.specs.FileTree.{FileTree}
 use Rattle.tree_core.specs.History.{History}
 use Rattle.tree_core.specs.declared.node.Change.TheVariants as call
 use Rattle.tree_core.specs.Runs.{then_all, CanAll, FailedIn, Ran}
-use Rattle.tree_core.proofs.Runs.{Left, then_all-append, can_rest, failed_rest}
+use Rattle.tree_core.proofs.Runs.{Left, then_all-append, can_first, can_rest, failed_first, failed_rest}
 use Rattle.commit_steps.specs.declared.step.Step.{Step}
 use Rattle.commit_states.specs.declared.held.Held.{Held}
 use Rattle.step_trees.specs.Steps.{call_of, undo_of}
-use Rattle.commit_steps.specs.Staging.{staging, staged, at_marker, fresh_name, held, new_journal, plan, sealed, back_marker}
-use Rattle.commit_states.specs.Calls.{do_calls, undo_calls, unmarked_calls, marked_calls, fresh_call, fresh_calls, removal_by, removals, staging_calls, last_calls, cleaning_calls}
-use Rattle.commit_calls.specs.Parts.{mark_calls}
+use Rattle.commit_steps.specs.Staging.{staged, fresh_name, held}
+use Rattle.commit_states.specs.Calls.{do_calls, undo_calls, unmarked_calls, marked_calls, fresh_call, fresh_calls, removal_by, removals_by, held_items}
+use Rattle.commit_calls.specs.Parts.{synced_rename_calls, remove_calls}
 
 -- one of the calls failed, and an error is answered
 pub ran_failed : {T : Type 0} (cs : List Change) (old new : History) (before after : FileTree) (result : Result T CallName) (first : CallName) → result ≡ Err first → FailedIn cs old new after first → Ran cs old new before after result
@@ -43,10 +43,6 @@ ran_as cs ds old new before after result same ran = subst (λ (l : List Change).
 pub item_is : {X : Type 0} (xs : List X) (k : ℕ) (d : X) → k < length xs → get_or xs k d ≡ get_or xs k (get_or xs k d)
 item_is xs k d within = get_or_default xs k d (get_or xs k d) within
 
--- a path read at a place
-pub path_at : (paths : List Names) (k : ℕ) (p is : Names) → k < length paths → p ≡ get_or paths k p → get_or paths k [] ≡ is → p ≡ is
-path_at paths k p is within at names = at ∙ get_or_default paths k p [] within ∙ names
-
 module _ (all : List Change) (began now : History) (k : ℕ) where
   pub fresh_left : (fs : List Fresh) (f : Fresh) (p : Names) → k < length fs → f ≡ get_or fs k f → p ≡ staged (fresh_name k)
       → Left all began now (fresh_calls k (drop k fs)) → Left all began now ((fresh_call p f ∷ []) ++ fresh_calls (k + 1) (drop (k + 1) fs))
@@ -54,16 +50,16 @@ module _ (all : List Change) (began now : History) (k : ℕ) where
       subst (λ (cs : List Change). Left all began now cs)
       (ap (fresh_calls k) (drop_more fs k f within ∙ ap (λ x. x ∷ drop (k + 1) fs) (sym is)) ∙ ap (λ q. fresh_call q f ∷ fresh_calls (k + 1) (drop (k + 1) fs)) (sym at)) left
 
-  pub held_left : (hs : List Held) (n : ℕ) (h : Held) (p : Names) → k < length hs → h ≡ get_or hs k h → p ≡ staged (held h.number)
-      → Left all began now (removals (drop k hs) n) → Left all began now ((removal_by h.is_dir p ∷ []) ++ removals (drop (k + 1) hs) n)
-  held_left hs n h p within is at left =
+  pub held_left : (hs : List Held) (h : Held) (p : Names) → k < length hs → h ≡ get_or hs k h → p ≡ staged (held h.number)
+      → Left all began now (removals_by (held_items (drop k hs))) → Left all began now ((removal_by h.is_dir p ∷ []) ++ removals_by (held_items (drop (k + 1) hs)))
+  held_left hs h p within is at left =
       subst (λ (cs : List Change). Left all began now cs)
-      (ap (λ l. removals l n) (drop_more hs k h within ∙ ap (λ x. x ∷ drop (k + 1) hs) (sym is)) ∙ ap (λ q. removal_by h.is_dir q ∷ removals (drop (k + 1) hs) n) (sym at)) left
+      (ap (λ (l : List Held). removals_by (held_items l)) (drop_more hs k h within ∙ ap (λ x. x ∷ drop (k + 1) hs) (sym is)) ∙ ap (λ q. removal_by h.is_dir q ∷ removals_by (held_items (drop (k + 1) hs))) (sym at)) left
 
-pub marked_is : (steps : List Step) (marker next : Names) → do_calls steps ++ mark_calls marker next ≡ marked_calls steps marker next
+pub marked_is : (steps : List Step) (marker next : Names) → do_calls steps ++ synced_rename_calls marker next ≡ marked_calls steps marker next
 marked_is steps marker next = sym (append_assoc (do_calls steps) (call.Sync ∷ []) (call.Rename marker next ∷ call.Sync ∷ []))
 
-pub unmarked_is : (steps : List Step) (marker next : Names) → undo_calls steps ++ mark_calls marker next ≡ unmarked_calls steps marker next
+pub unmarked_is : (steps : List Step) (marker next : Names) → undo_calls steps ++ synced_rename_calls marker next ≡ unmarked_calls steps marker next
 unmarked_is steps marker next = sym (append_assoc (undo_calls steps) (call.Sync ∷ []) (call.Rename marker next ∷ call.Sync ∷ []))
 
 -- a step of a group
@@ -82,3 +78,25 @@ pub undo_left : (all : List Change) (began now : History) (steps : List Step) (k
 undo_left all began now steps k i step at within is left =
     subst (λ (cs : List Change). Left all began now cs)
     (ap undo_calls (ap (λ x. take x steps) at ∙ take_more steps i step within ∙ ap (λ x. take i steps ++ x ∷ []) (sym is)) ∙ undo_calls-push (take i steps) step) left
+
+-- a step that is removed
+pub remove_left : (all : List Change) (began now : History) (k : ℕ) (paths : List Names) (p : Names) → k < length paths → p ≡ get_or paths k p
+    → Left all began now (remove_calls (drop k paths)) → Left all began now ((call.Remove p ∷ []) ++ remove_calls (drop (k + 1) paths))
+remove_left all began now k paths p within is left =
+    subst (λ (cs : List Change). Left all began now cs) (ap remove_calls (drop_more paths k p within ∙ ap (λ x. x ∷ drop (k + 1) paths) (sym is))) left
+
+-- ---- two runs, of which the second comes only behind the first
+
+module _ (all cs ds : List Change) (split : cs ++ ds ≡ all) (old : History) where
+  pub first_can : CanAll all old → CanAll cs old
+  first_can can = can_first old cs ds (subst (λ (l : List Change). CanAll l old) (sym split) can)
+
+  pub first_failed : {T : Type 0} (new : History) (before after : FileTree) (result : Result T CallName) (first : CallName) → result ≡ Err first → FailedIn cs old new after first → Ran all old new before after result
+  first_failed new before after result first err failed =
+      ran_failed all old new before after result first err (subst (λ (l : List Change). FailedIn l old new after first) split (failed_first cs ds old new after first failed))
+
+  pub second_can : (mid : History) → mid ≡ then_all old cs → CanAll all old → CanAll ds mid
+  second_can mid is can = can_behind cs ds old mid mid is (subst (λ (l : List Change). CanAll l old) (sym split) can)
+
+  pub second_ran : {T : Type 0} (mid new : History) (before between after : FileTree) (result : Result T CallName) → mid ≡ then_all old cs → between ≡ before → Ran ds mid new between after result → Ran all old new before after result
+  second_ran mid new before between after result is same ran = ran_as (cs ++ ds) all old new before after result split (ran_behind cs ds old mid new is before between after result same ran)

@@ -7,8 +7,8 @@ use Rattle.tree_core.specs.declared.node.Change.TheVariants as call
 use Rattle.commit_states.specs.Calls.{fresh_calls}
 
 -- what was done is made durable, and then what stands at a path gets another one
-abbrev pub mark_calls : Names → Names → List Change
-mark_calls from to = call.Sync ∷ call.Rename from to ∷ call.Sync ∷ []
+abbrev pub synced_rename_calls : Names → Names → List Change
+synced_rename_calls from to = call.Sync ∷ call.Rename from to ∷ call.Sync ∷ []
 
 -- the staging directory with its first marker and the fresh entries
 abbrev pub open_calls : Names → Names → List Fresh → List Change

@@ -1,10 +1,12 @@
 -- The paths that a commit takes with it.
-use Rattle.std.specs.Prelude.{◌≡◌, ℕ, List, map}
+use Rattle.std.specs.Prelude.{◌≡◌, ℕ, List, map, codes}
 use Rattle.std.specs.List.{range_with_len}
 use Rattle.dired_text.specs.Paths.{Names}
 use Rattle.commit_steps.specs.Staging.{staging, staged, at_marker, back_marker, fresh_name, held, new_journal, plan, sealed, undone}
 use Rattle.commit_states.specs.declared.held.Held.{Held}
 use Rattle.commit_calls.specs.declared.paths.StagingPaths.{StagingPaths}
+use Rattle.commit_calls.specs.declared.paths.Numbered.{Numbered}
+use Rattle.commit_calls.specs.declared.paths.Numbered.TheVariants.{At, Back, Fresh, Held as PutAside}
 
 -- the path of the marker at each of these cuts
 abbrev pub at_marker_paths : List ℕ → List Names
@@ -29,3 +31,10 @@ pub record ArePaths (p : StagingPaths) : Type 0 where
   pub plan_is : p.plan ≡ staged plan
   pub sealed_is : p.sealed ≡ staged sealed
   pub undone_is : p.undone ≡ staged undone
+
+-- the letters before the number in a name
+abbrev pub letters_of : Numbered → List ℕ
+letters_of At = codes "at-"
+letters_of Back = codes "back-"
+letters_of Fresh = codes "f"
+letters_of PutAside = codes "h"

@@ -6,6 +6,7 @@ ghost use Rattle.tree_core.specs.History.{current_tree};
 ghost use Rattle.tree_core.specs.Runs.{CanAll, Ran};
 ghost use Rattle.tree_core.specs.Faults.{NamesFault};
 ghost use Rattle.step_trees.specs.Steps.{call_of, undo_of};
+ghost use Rattle.commit_calls.specs.Parts.{synced_rename_calls};
 
 use commit_steps::Step;
 use dired_text::Path;
@@ -157,4 +158,14 @@ pub fn rename_and_sync<T: Tree>(tree: &mut T, from: &Path, to: &Path) -> Result<
 {
     rename(tree, from, to)?;
     sync(tree)
+}
+
+/// Makes durable what was done, moves what stands at a path, and makes that durable.
+pub fn sync_and_rename<T: Tree>(tree: &mut T, from: &Path, to: &Path) -> Result<(), CallName>
+    requires can { T.Tells → CanAll (synced_rename_calls from.now to.now) (T.history tree.old) }
+    ensures ran { T.Tells → Ran (synced_rename_calls from.now to.now) (T.history tree.old) (T.history tree.new) (T.before_failed tree.old) (T.before_failed tree.new) result }
+    ensures cause { NamesFault (T.faults tree.old) (T.faults tree.new) result }
+{
+    sync(tree)?;
+    rename_and_sync(tree, from, to)
 }

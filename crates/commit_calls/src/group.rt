@@ -5,10 +5,9 @@ ghost use Rattle.tree_core.specs.Faults.{NamesFault, with_fault};
 ghost use Rattle.commit_states.specs.Calls.{do_calls, undo_calls, marked_calls, unmarked_calls, calls_from};
 ghost use Rattle.step_trees.specs.Groups.{groups};
 ghost use Rattle.commit_calls.specs.Cuts.{ends_of, StoppedIn};
-ghost use Rattle.commit_calls.specs.Parts.{mark_calls};
 ghost use Rattle.commit_calls.specs.Paths.{at_marker_paths};
 
-use crate::calls::{do_step, rename_and_sync, sync, undo_step};
+use crate::calls::{do_step, sync_and_rename, undo_step};
 use commit_steps::Step;
 use dired_text::Path;
 use tree_core::{CallName, Tree};
@@ -37,16 +36,6 @@ fn undo_all<T: Tree>(tree: &mut T, steps: &[Step]) -> Result<(), CallName>
     Ok(())
 }
 
-// A sync, and then the marker.
-fn mark<T: Tree>(tree: &mut T, marker: &Path, next: &Path) -> Result<(), CallName>
-    requires can { T.Tells → CanAll (mark_calls marker.now next.now) (T.history tree.old) }
-    ensures ran { T.Tells → Ran (mark_calls marker.now next.now) (T.history tree.old) (T.history tree.new) (T.before_failed tree.old) (T.before_failed tree.new) result }
-    ensures cause { NamesFault (T.faults tree.old) (T.faults tree.new) result }
-{
-    sync(tree)?;
-    rename_and_sync(tree, marker, next)
-}
-
 /// Does the steps of a group, and then its marker.
 pub fn do_group<T: Tree>(
     tree: &mut T,
@@ -59,7 +48,7 @@ pub fn do_group<T: Tree>(
     ensures cause { NamesFault (T.faults tree.old) (T.faults tree.new) result }
 {
     do_all(tree, steps)?;
-    mark(tree, marker, next)
+    sync_and_rename(tree, marker, next)
 }
 
 /// Undoes the steps of a group, the last one first, and then its marker.
@@ -74,7 +63,7 @@ pub fn undo_group<T: Tree>(
     ensures cause { NamesFault (T.faults tree.old) (T.faults tree.new) result }
 {
     undo_all(tree, steps)?;
-    mark(tree, marker, next)
+    sync_and_rename(tree, marker, next)
 }
 
 /// A call failed while groups of steps were done.

@@ -2,12 +2,18 @@
 #![tactic(auto)]
 
 mod calls;
+mod clearing;
 mod group;
 mod paths;
+mod staging;
 
 pub use calls::{
     do_step, make_dir, make_hard, make_link, remove, remove_dir, rename, rename_and_sync, set_mode,
-    sync, undo_step, write_file,
+    sync, sync_and_rename, undo_step, write_file,
 };
+pub use clearing::{clean, clear, end_back};
 pub use group::{Stopped, do_group, do_groups, undo_group};
-pub use paths::StagingPaths;
+pub use paths::{
+    StagingPaths, at_markers, back_markers, fresh_paths, held_paths, staging_paths,
+};
+pub use staging::{fill, publish, stage};
