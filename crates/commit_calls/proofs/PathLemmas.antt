@@ -1,17 +1,17 @@
 -- Lists of calls over the paths that were made for them.
-use Rattle.std.proofs.Common.{◌≡◌, ℕ, ◌+◌, ◌<◌, List, [], ◌∷◌, ◌++◌, length, get_or, map, refl, sym, ◌∙◌, ap, arith, append_assoc}
+use Rattle.std.proofs.Common.{◌≡◌, ℕ, ◌+◌, ◌<◌, List, [], ◌∷◌, ◌++◌, length, take, codes, get_or, map, refl, sym, ◌∙◌, ap, arith, append_assoc}
 use Rattle.std.specs.List.{range_with_len}
-use Rattle.std.proofs.lemmas.List.{get_or_default, get_or-map, length-map}
-use Rattle.std.proofs.lemmas.List.FromFn.{get_or-map-range_with_len, length-map-range_with_len}
+use Rattle.std.proofs.lemmas.List.{get_or_default, get_or-map, length-map, map_more}
+use Rattle.std.proofs.lemmas.List.FromFn.{get_or-map-range_with_len, length-map-range_with_len, map-range_with_len_more}
 use Rattle.dired_text.specs.Paths.{Names}
 use Rattle.tree_core.specs.declared.changes.Fresh.{Fresh}
 use Rattle.tree_core.specs.declared.node.Change.{Change}
 use Rattle.tree_core.specs.declared.node.Change.TheVariants as call
-use Rattle.commit_steps.specs.Staging.{staging, staged, at_marker, back_marker, fresh_name, held, new_journal, plan, sealed, undone}
+use Rattle.commit_steps.specs.Staging.{staging, staged, numbered, at_marker, back_marker, fresh_name, held, new_journal, plan, sealed, undone}
 use Rattle.commit_states.specs.declared.held.Held.{Held}
-use Rattle.commit_states.specs.Calls.{Items, stage_calls, plan_calls, staging_calls, removal_by, removals_by, removals_of, held_items, fresh_items, last_of, cleaning_calls, clearing_calls, revoke_calls, end_calls}
-use Rattle.commit_calls.specs.Parts.{synced_rename_calls, open_calls, remove_calls, close_up_calls}
-use Rattle.commit_calls.specs.Paths.{fresh_entry_paths, held_entry_paths}
+use Rattle.commit_states.specs.Calls.{Items, stage_calls, plan_calls, staging_calls, removal_by, removals_by, removals_of, held_items, fresh_items, last_of, cleaning_calls, clearing_calls, revoke_calls, end_calls, unstage_calls}
+use Rattle.commit_calls.specs.Parts.{synced_rename_calls, open_calls, remove_calls, close_up_calls, unstaging_calls}
+use Rattle.commit_calls.specs.Paths.{at_marker_paths, back_marker_paths, fresh_entry_paths, held_entry_paths}
 
 -- ---- a path at a place
 
@@ -28,6 +28,24 @@ held_count paths hs are = ap (λ (l : List Names). length l) are ∙ length-map 
 pub held_path_at : (paths : List Names) (hs : List Held) (k : ℕ) (h : Held) (p : Names) → paths ≡ held_entry_paths hs → k < length hs → h ≡ get_or hs k h → p ≡ get_or paths k p → p ≡ staged (held h.number)
 held_path_at paths hs k h p are lt item is =
     is ∙ ap (λ (l : List Names). get_or l k p) are ∙ get_or-map (λ (x : Held). staged (held x.number)) hs k h p lt ∙ ap (λ (x : Held). staged (held x.number)) (sym item)
+
+-- ---- one path more
+
+pub at_more : (cuts : List ℕ) (i : ℕ) → i < length cuts → at_marker_paths (take (i + 1) cuts) ≡ at_marker_paths (take i cuts) ++ staged (numbered (codes "at-") (get_or cuts i 0)) ∷ []
+unfolding at_marker
+at_more cuts i lt = map_more (λ k. staged (at_marker k)) cuts i 0 lt
+
+pub back_more : (cuts : List ℕ) (i : ℕ) → i < length cuts → back_marker_paths (take (i + 1) cuts) ≡ back_marker_paths (take i cuts) ++ staged (numbered (codes "back-") (get_or cuts i 0)) ∷ []
+unfolding back_marker
+back_more cuts i lt = map_more (λ k. staged (back_marker k)) cuts i 0 lt
+
+pub fresh_more : (count : ℕ) → fresh_entry_paths (count + 1) ≡ fresh_entry_paths count ++ staged (numbered (codes "f") count) ∷ []
+unfolding fresh_name
+fresh_more count = map-range_with_len_more (λ k. staged (fresh_name k)) 0 count count (omega arith)
+
+pub held_more : (hs : List Held) (i : ℕ) (h : Held) → i < length hs → held_entry_paths (take (i + 1) hs) ≡ held_entry_paths (take i hs) ++ staged (numbered (codes "h") (get_or hs i h).number) ∷ []
+unfolding held
+held_more hs i h lt = map_more (λ (x : Held). staged (held x.number)) hs i h lt
 
 -- ---- the parts of lists
 
@@ -72,3 +90,8 @@ cleared_is fs paths marker journal directory are m j d =
 pub ended_is : (fs : List Fresh) (from to : Names) → from ≡ staged plan → to ≡ staged undone → (call.Rename from to ∷ call.Sync ∷ []) ++ clearing_calls fs ≡ end_calls fs
 ended_is fs from to f t =
     ap (λ x. (call.Rename x to ∷ call.Sync ∷ []) ++ clearing_calls fs) f ∙ ap (λ x. (call.Rename (staged plan) x ∷ call.Sync ∷ []) ++ clearing_calls fs) t
+
+-- the names in the staging directory are removed, and then it
+pub unstaged_is : (xs : List (List ℕ)) → unstaging_calls (map (λ x. staged x) xs) staging ≡ unstage_calls xs ++ call.Sync ∷ []
+unstaged_is [] = refl
+unstaged_is (x ∷ xs) = ap (λ (l : List Change). call.Remove (staged x) ∷ l) (unstaged_is xs)

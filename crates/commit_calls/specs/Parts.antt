@@ -22,3 +22,7 @@ remove_calls (p ∷ ps) = call.Remove p ∷ remove_calls ps
 -- the marker is removed, and when that is durable the journal and the directory
 abbrev pub close_up_calls : Names → Names → Names → List Change
 close_up_calls marker journal directory = call.Remove marker ∷ call.Sync ∷ call.Remove journal ∷ call.RemoveDir directory ∷ call.Sync ∷ []
+
+-- these files and links are removed, and then the directory
+abbrev pub unstaging_calls : List Names → Names → List Change
+unstaging_calls entries directory = remove_calls entries ++ call.RemoveDir directory ∷ call.Sync ∷ []

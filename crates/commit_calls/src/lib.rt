@@ -6,6 +6,7 @@ mod clearing;
 mod group;
 mod paths;
 mod staging;
+mod unstaging;
 
 pub use calls::{
     do_step, make_dir, make_hard, make_link, remove, remove_dir, rename, rename_and_sync, set_mode,
@@ -17,3 +18,4 @@ pub use paths::{
     StagingPaths, at_markers, back_markers, fresh_paths, held_paths, staging_paths,
 };
 pub use staging::{fill, publish, stage};
+pub use unstaging::unstage;

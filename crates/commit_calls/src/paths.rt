@@ -29,6 +29,7 @@ pub struct StagingPaths {
 ///
 /// # Errors
 /// `Memory` where an allocation was refused.
+#[tactic(auto, unfolding(commit_steps::specs::Staging::new_journal, commit_steps::specs::Staging::plan, commit_steps::specs::Staging::sealed, commit_steps::specs::Staging::undone))]
 pub fn staging_paths(alloc: Global) -> Result<StagingPaths, Memory>
     ensures paths { IfOk result (λ p. ArePaths p) }
 {

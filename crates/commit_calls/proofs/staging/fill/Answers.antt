@@ -16,7 +16,7 @@ returns-in_err-open-clause-ran g c tells =
     (let p = err_from_is_err_and c.from_residual.result c.from_residual.ensures.1 in p.1 ∙ ap Err p.2) (c.in_err-open.ensures.ran tells)
 
 pub write_file-requires : goal.write_file-requires
-write_file-requires g c = record { can = λ tells. second_can (stage_calls c.args.fresh.now c.args.journal.now) (open_calls c.args.paths.now.staging c.args.marker.now c.args.fresh.now) (call.WriteFile c.args.paths.now.new_journal c.args.journal.now 0o600 ∷ []) (filled_is c.args.paths.now.staging c.args.marker.now c.args.paths.now.new_journal c.args.fresh.now c.args.journal.now c.requires.paths.staging_is c.requires.marker c.requires.paths.new_is) (g.T.Tree.history c.args.tree.now) (g.T.Tree.history c.open.new.tree) (c.in_ok-open.ensures.ran tells).0 (c.requires.can tells) }
+write_file-requires g c = record { can = λ tells. (second_can (stage_calls c.args.fresh.now c.args.journal.now) (open_calls c.args.paths.now.staging c.args.marker.now c.args.fresh.now) (call.WriteFile c.args.paths.now.new_journal c.args.journal.now 0o600 ∷ []) (filled_is c.args.paths.now.staging c.args.marker.now c.args.paths.now.new_journal c.args.fresh.now c.args.journal.now c.requires.paths.staging_is c.requires.marker c.requires.paths.new_is) (g.T.Tree.history c.args.tree.now) (g.T.Tree.history c.open.new.tree) (c.in_ok-open.ensures.ran tells).0 (c.requires.can tells)).0 }
 
 pub returns-clause-ran : goal.returns-clause-ran
 returns-clause-ran g c tells =

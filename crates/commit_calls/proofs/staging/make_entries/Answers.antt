@@ -7,6 +7,9 @@ use Rattle.commit_calls.proofs.RunLemmas.{ran_failed, fresh_left}
 use Rattle.commit_calls.proofs.PathLemmas.{fresh_path_at, fresh_count}
 use Rattle.commit_calls.proofs.staging.make_entries.Goals as goal
 
+pub bounds-paths-k : goal.bounds-paths-k
+bounds-paths-k g c = let n : length c.args.paths.now ≡ length c.args.fresh.now = fresh_count c.args.paths.now (length c.args.fresh.now) c.requires.paths in let t = c.loop-k-test.true in omega arith
+
 pub make_fresh-requires : goal.make_fresh-requires
 make_fresh-requires g c = record {
   can = λ tells. (left_can (fresh_calls 0 c.args.fresh.now) (g.T.Tree.history c.args.tree.now) (g.T.Tree.history c.loop-k.tree) (fresh_call c.index-paths-k.result c.index-fresh-k.result ∷ []) (fresh_calls (c.loop-k.k + 1) (drop (c.loop-k.k + 1) c.args.fresh.now)) (fresh_left (fresh_calls 0 c.args.fresh.now) (g.T.Tree.history c.args.tree.now) (g.T.Tree.history c.loop-k.tree) c.loop-k.k c.args.fresh.now c.index-fresh-k.result c.index-paths-k.result c.loop-k-test.true c.index-fresh-k.is (fresh_path_at c.args.paths.now (length c.args.fresh.now) c.loop-k.k c.index-paths-k.result c.requires.paths c.loop-k-test.true c.index-paths-k.is) (c.loop-k.invariant.left tells))).0;
