@@ -54,7 +54,12 @@ pub(crate) fn remove_all<T: Tree>(tree: &mut T, paths: &[Path]) -> Result<(), Ca
 }
 
 // Removes the marker, and when that is durable the journal and the staging directory.
-fn close_up<T: Tree>(tree: &mut T, marker: &Path, journal: &Path, directory: &Path) -> Result<(), CallName>
+fn close_up<T: Tree>(
+    tree: &mut T,
+    marker: &Path,
+    journal: &Path,
+    directory: &Path,
+) -> Result<(), CallName>
     requires can { T.Tells → CanAll (close_up_calls marker.now journal.now directory.now) (T.history tree.old) }
     ensures ran { T.Tells → Ran (close_up_calls marker.now journal.now directory.now) (T.history tree.old) (T.history tree.new) (T.before_failed tree.old) (T.before_failed tree.new) result }
     ensures cause { NamesFault (T.faults tree.old) (T.faults tree.new) result }

@@ -14,8 +14,6 @@ pub use calls::{
 };
 pub use clearing::{clean, clear, end_back};
 pub use group::{Stopped, do_group, do_groups, undo_group};
-pub use paths::{
-    StagingPaths, at_markers, back_markers, fresh_paths, held_paths, staging_paths,
-};
+pub use paths::{StagingPaths, at_markers, back_markers, fresh_paths, held_paths, staging_paths};
 pub use staging::{fill, publish, stage};
 pub use unstaging::unstage;
