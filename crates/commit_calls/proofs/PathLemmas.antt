@@ -1,7 +1,7 @@
 -- Lists of calls over the paths that were made for them.
 use Rattle.std.proofs.Common.{◌≡◌, ℕ, ◌+◌, ◌<◌, List, [], ◌∷◌, ◌++◌, length, take, codes, get_or, map, refl, sym, ◌∙◌, ap, arith, append_assoc}
 use Rattle.std.specs.List.{range_with_len}
-use Rattle.std.proofs.lemmas.List.{get_or_default, get_or-map, length-map, map_more}
+use Rattle.std.proofs.lemmas.List.{get_or-map, length-map, map_more}
 use Rattle.std.proofs.lemmas.List.FromFn.{get_or-map-range_with_len, length-map-range_with_len, map-range_with_len_more}
 use Rattle.dired_text.specs.Paths.{Names}
 use Rattle.tree_core.specs.declared.changes.Fresh.{Fresh}
@@ -9,7 +9,7 @@ use Rattle.tree_core.specs.declared.node.Change.{Change}
 use Rattle.tree_core.specs.declared.node.Change.TheVariants as call
 use Rattle.commit_steps.specs.Staging.{staging, staged, numbered, at_marker, back_marker, fresh_name, held, new_journal, plan, sealed, undone}
 use Rattle.commit_states.specs.declared.held.Held.{Held}
-use Rattle.commit_states.specs.Calls.{Items, stage_calls, plan_calls, staging_calls, removal_by, removals_by, removals_of, held_items, fresh_items, last_of, cleaning_calls, clearing_calls, revoke_calls, end_calls, unstage_calls}
+use Rattle.commit_states.specs.Calls.{Items, stage_calls, plan_calls, staging_calls, removal_by, removals_by, removals_of, held_items, fresh_items, last_of, cleaning_calls, clearing_calls, end_calls, unstage_calls}
 use Rattle.commit_calls.specs.Parts.{synced_rename_calls, open_calls, remove_calls, close_up_calls, unstaging_calls}
 use Rattle.commit_calls.specs.Paths.{at_marker_paths, back_marker_paths, fresh_entry_paths, held_entry_paths}
 

@@ -1,6 +1,6 @@
 -- Loops and chains of calls.
-use Rattle.std.proofs.Common.{arith, refl, take, ◌≡◌, ℕ, ◌+◌, ◌<◌, List, [], ◌∷◌, ◌++◌, length, get_or, drop, sym, ◌∙◌, ap, subst, append_assoc, Result, Ok, Err}
-use Rattle.std.proofs.lemmas.List.{take_more, length-take-le, drop_more, get_or_default}
+use Rattle.std.proofs.Common.{refl, take, ◌≡◌, ℕ, ◌+◌, ◌<◌, List, [], ◌∷◌, ◌++◌, length, get_or, drop, sym, ◌∙◌, ap, subst, append_assoc, Result, Ok, Err}
+use Rattle.std.proofs.lemmas.List.{take_more, drop_more, get_or_default}
 use Rattle.dired_text.specs.Paths.{Names}
 use Rattle.tree_core.specs.declared.node.Change.{Change}
 use Rattle.tree_core.specs.declared.changes.Fresh.{Fresh}

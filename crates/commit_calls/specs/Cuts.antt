@@ -4,7 +4,7 @@ use Rattle.tree_core.specs.FileTree.{FileTree}
 use Rattle.tree_core.specs.History.{History}
 use Rattle.tree_core.specs.Runs.{then_all, FailedIn}
 use Rattle.commit_steps.specs.declared.step.Step.{Step}
-use Rattle.step_trees.specs.Groups.{groups, joined}
+use Rattle.step_trees.specs.Groups.{joined}
 use Rattle.commit_states.specs.Calls.{group_calls, calls_from}
 use Rattle.commit_calls.specs.declared.group.Stopped.{Stopped}
 

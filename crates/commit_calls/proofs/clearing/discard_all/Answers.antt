@@ -1,10 +1,9 @@
-use Rattle.std.proofs.Common.{◌≡◌, ◌+◌, ◌<◌, ◌∙◌, [], ◌∷◌, length, drop, get_or, false, ap, arith, Err}
+use Rattle.std.proofs.Common.{◌+◌, ◌∙◌, [], ◌∷◌, drop, get_or, false, ap, Err}
 use Rattle.std.proofs.lemmas.Result.{err_from_is_err_and}
-use Rattle.tree_core.specs.declared.node.Change.TheVariants as call
 use Rattle.tree_core.proofs.Runs.{left_can, left_next, left_failed}
 use Rattle.commit_states.specs.Calls.{removal_by, removals_by, held_items}
 use Rattle.commit_calls.proofs.RunLemmas.{ran_failed, item_is, held_left}
-use Rattle.commit_calls.proofs.PathLemmas.{held_path_at, held_count}
+use Rattle.commit_calls.proofs.PathLemmas.{held_path_at}
 use Rattle.commit_calls.proofs.clearing.discard_all.Goals as goal
 
 pub discard-requires : goal.discard-requires

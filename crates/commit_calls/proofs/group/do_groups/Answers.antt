@@ -1,11 +1,11 @@
-use Rattle.std.proofs.Common.{◌≡◌, ◌+◌, ◌-◌, ◌≤◌, ◌∙◌, suc, List, [], ◌∷◌, ◌++◌, length, take, drop, arith, rules, refl, ap, subst, sym, slice_index_or}
+use Rattle.std.proofs.Common.{◌≡◌, ◌+◌, ◌-◌, ◌∙◌, suc, ◌∷◌, length, take, drop, arith, refl, ap, slice_index_or}
 use Rattle.std.proofs.lemmas.List.{length-map}
 use Rattle.tree_core.specs.Runs.{then_all}
 use Rattle.commit_steps.specs.Staging.{staged, at_marker}
 use Rattle.commit_states.specs.Calls.{marked_calls, calls_from}
 use Rattle.step_trees.specs.Groups.{groups}
 use Rattle.commit_calls.proofs.RunLemmas.{item_is}
-use Rattle.commit_calls.proofs.EndLemmas.{Here, here_first, group_here, marker_at, calls_here, group_can, group_done, group_failed, all_taken}
+use Rattle.commit_calls.proofs.EndLemmas.{here_first, group_here, marker_at, calls_here, group_can, group_done, group_failed, all_taken}
 use Rattle.commit_calls.proofs.group.do_groups.Goals as goal
 
 pub loop-k-init : goal.loop-k-init

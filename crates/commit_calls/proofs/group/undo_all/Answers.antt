@@ -1,6 +1,5 @@
-use Rattle.std.proofs.Common.{◌+◌, ◌-◌, ◌∙◌, List, [], ◌∷◌, ◌++◌, take, drop, arith, ap, subst, sym, Err}
+use Rattle.std.proofs.Common.{◌-◌, ◌∙◌, [], ◌∷◌, take, arith, ap, Err}
 use Rattle.std.proofs.lemmas.Result.{err_from_is_err_and}
-use Rattle.tree_core.specs.declared.node.Change.{Change}
 use Rattle.tree_core.proofs.Runs.{left_can, left_next, left_failed}
 use Rattle.step_trees.specs.Steps.{undo_of}
 use Rattle.commit_states.specs.Calls.{undo_calls}

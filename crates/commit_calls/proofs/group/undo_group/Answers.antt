@@ -1,4 +1,4 @@
-use Rattle.std.proofs.Common.{◌+◌, ◌-◌, ◌∙◌, List, [], ◌∷◌, ◌++◌, take, drop, arith, ap, subst, sym, Err}
+use Rattle.std.proofs.Common.{◌∙◌, List, ◌++◌, ap, subst, sym, Err}
 use Rattle.std.proofs.lemmas.Result.{err_from_is_err_and}
 use Rattle.tree_core.specs.declared.node.Change.{Change}
 use Rattle.tree_core.specs.Runs.{CanAll, FailedIn}

@@ -1,5 +1,4 @@
-use Rattle.std.proofs.Common.{◌≡◌, ◌+◌, ◌++◌, [], ◌∷◌, take, get_or, false, sym, ◌∙◌, ap, codes}
-use Rattle.commit_steps.specs.Staging.{staged, numbered}
+use Rattle.std.proofs.Common.{◌++◌, [], ◌∷◌, take, sym, ◌∙◌, ap}
 use Rattle.dired_text.specs.Paths.{Names}
 use Rattle.commit_calls.specs.Paths.{at_marker_paths}
 use Rattle.commit_calls.proofs.PathLemmas.{at_more}

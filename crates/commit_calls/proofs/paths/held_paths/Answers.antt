@@ -1,4 +1,4 @@
-use Rattle.std.proofs.Common.{◌≡◌, ◌+◌, ◌++◌, ℕ, [], ◌∷◌, take, get_or, false, sym, ◌∙◌, ap, codes, rules}
+use Rattle.std.proofs.Common.{◌≡◌, ◌++◌, ℕ, [], ◌∷◌, take, get_or, false, sym, ◌∙◌, ap, codes, rules}
 use Rattle.commit_steps.specs.Staging.{staged, numbered}
 use Rattle.dired_text.specs.Paths.{Names}
 use Rattle.commit_calls.specs.Paths.{held_entry_paths}

@@ -1,4 +1,4 @@
-use Rattle.std.proofs.Common.{◌∙◌, List, [], ◌∷◌, ◌++◌, ap, Err}
+use Rattle.std.proofs.Common.{◌∙◌, ◌∷◌, ap, Err}
 use Rattle.std.proofs.lemmas.Result.{err_from_is_err_and}
 use Rattle.tree_core.specs.declared.node.Change.TheVariants as call
 use Rattle.commit_states.specs.Calls.{stage_calls, plan_calls, staging_calls}
