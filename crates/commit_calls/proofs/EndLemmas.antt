@@ -8,14 +8,15 @@ use Rattle.tree_core.specs.declared.node.CallName.{CallName}
 use Rattle.tree_core.specs.FileTree.{FileTree}
 use Rattle.tree_core.specs.History.{History}
 use Rattle.tree_core.specs.Runs.{then_all, CanAll, FailedIn}
-use Rattle.tree_core.proofs.Runs.{then_all-append, can_first, can_rest}
+use Rattle.tree_core.proofs.Runs.{then_all-append, can_first, can_rest, failed_first, failed_rest}
 use Rattle.commit_steps.specs.declared.step.Step.{Step}
 use Rattle.commit_steps.specs.Staging.{staged, at_marker}
 use Rattle.step_trees.specs.Groups.{groups, joined}
 use Rattle.step_trees.proofs.CutLemmas.{joined_groups}
 use Rattle.step_trees.proofs.PlaceLemmas.{drop-add}
 use Rattle.commit_states.specs.Calls.{calls_from, group_calls, marked_calls}
-use Rattle.commit_calls.specs.Cuts.{ends_of, cut_at, group_at}
+use Rattle.commit_calls.specs.declared.group.Stopped.{Stopped}
+use Rattle.commit_calls.specs.Cuts.{StoppedIn, ends_of, cut_at, group_at}
 use Rattle.commit_calls.specs.Paths.{at_marker_paths}
 
 -- k groups are behind, and the next one begins at `from`
@@ -160,6 +161,14 @@ module _ (gs : List (List Step)) (k : ℕ) (lt : k < length gs) (began now : His
   group_failed new before first failed =
       subst (λ (l : List Change). FailedIn l (then_all began (calls_from 0 (take k gs))) new before first) are
       (subst (λ (h : History). FailedIn cs h new before first) done failed)
+
+-- a call of the whole list failed, where one of a group did
+pub stopped_among : (gs : List (List Step)) (s : Stopped) (old new : History) (before : FileTree) → s.group < length gs → StoppedIn gs s old new before → FailedIn (calls_from 0 gs) old new before s.first
+stopped_among gs s old new before lt failed =
+    subst (λ (l : List Change). FailedIn l old new before s.first)
+    (sym (whole gs s.group lt old (then_all old (calls_from 0 (take s.group gs))) refl (group_calls (cut_at s.group gs) (group_at s.group gs)) refl))
+    (failed_rest (calls_from 0 (take s.group gs)) (group_calls (cut_at s.group gs) (group_at s.group gs) ++ calls_from (0 + length (joined (take (s.group + 1) gs))) (drop (s.group + 1) gs)) old new before s.first
+    (failed_first (group_calls (cut_at s.group gs) (group_at s.group gs)) (calls_from (0 + length (joined (take (s.group + 1) gs))) (drop (s.group + 1) gs)) (then_all old (calls_from 0 (take s.group gs))) new before s.first failed))
 
 -- the calls of a group, as the code makes them
 pub calls_here : (steps : List Step) (ends : List ℕ) (k from end : ℕ) (marker next : Names) → Here steps ends k from → Group steps ends k from end → marker ≡ staged (at_marker from) → next ≡ staged (at_marker end)
