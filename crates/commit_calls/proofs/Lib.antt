@@ -1,0 +1,4 @@
+pub mod RunLemmas
+pub mod EndLemmas
+pub mod PathLemmas
+pub mod NameLemmas
