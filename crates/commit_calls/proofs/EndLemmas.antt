@@ -16,7 +16,8 @@ use Rattle.step_trees.proofs.CutLemmas.{joined_groups}
 use Rattle.step_trees.proofs.PlaceLemmas.{drop-add}
 use Rattle.commit_states.specs.Calls.{calls_from, group_calls, marked_calls}
 use Rattle.commit_calls.specs.declared.group.Stopped.{Stopped}
-use Rattle.commit_calls.specs.Cuts.{StoppedIn, ends_of, cut_at, group_at}
+use Rattle.commit_calls.specs.Cuts.{StoppedIn, cut_at, group_at}
+use Rattle.step_cuts.specs.Cuts.{ends_of}
 use Rattle.commit_calls.specs.Paths.{at_marker_paths}
 
 -- k groups are behind, and the next one begins at `from`

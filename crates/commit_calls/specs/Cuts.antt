@@ -1,5 +1,5 @@
 -- Where groups begin and end.
-use Rattle.std.specs.Prelude.{ℕ, ◌+◌, List, [], ◌∷◌, length, take, get_or}
+use Rattle.std.specs.Prelude.{ℕ, List, [], length, take, get_or}
 use Rattle.tree_core.specs.FileTree.{FileTree}
 use Rattle.tree_core.specs.History.{History}
 use Rattle.tree_core.specs.Runs.{then_all, FailedIn}
@@ -7,11 +7,6 @@ use Rattle.commit_steps.specs.declared.step.Step.{Step}
 use Rattle.step_trees.specs.Groups.{joined}
 use Rattle.commit_states.specs.Calls.{group_calls, calls_from}
 use Rattle.commit_calls.specs.declared.group.Stopped.{Stopped}
-
--- the ends of groups that begin at place k
-abbrev pub ends_of : ℕ → List (List Step) → List ℕ
-ends_of k [] = []
-ends_of k (g ∷ gs) = (k + length g) ∷ ends_of (k + length g) gs
 
 -- the cut at which group number i begins
 abbrev pub cut_at : ℕ → List (List Step) → ℕ

@@ -4,7 +4,8 @@ ghost use Rattle.tree_core.specs.Runs.{CanAll, Ran, then_all};
 ghost use Rattle.tree_core.specs.Faults.{NamesFault, with_fault};
 ghost use Rattle.commit_states.specs.Calls.{do_calls, undo_calls, marked_calls, unmarked_calls, calls_from};
 ghost use Rattle.step_trees.specs.Groups.{groups};
-ghost use Rattle.commit_calls.specs.Cuts.{ends_of, StoppedIn};
+ghost use Rattle.commit_calls.specs.Cuts.{StoppedIn};
+ghost use Rattle.step_cuts.specs.Cuts.{ends_of};
 ghost use Rattle.commit_calls.specs.Paths.{at_marker_paths};
 
 use crate::calls::{do_step, sync_and_rename, undo_step};
