@@ -1,0 +1,3 @@
+pub mod ParentLemmas
+pub mod TestLemmas
+pub mod UndoLemmas

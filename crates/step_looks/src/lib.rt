@@ -1,0 +1,8 @@
+//! Looks at the steps of a commit: whether each is still to be done or was done, and doing or undoing what the looks tell.
+#![tactic(auto)]
+
+mod looking;
+mod parent_paths;
+
+pub use looking::{Seen, look, look_back};
+pub use parent_paths::{Parents, parents_of};
