@@ -1,5 +1,5 @@
 -- What the tests say.
-use Rattle.std.proofs.Common.{◌≡◌, ◌≢◌, ◌↔◌, ◌⊎◌, inl, inr, ⊎_elim, ℕ, ◌==◌, ◌≤◌, Bool, true, false, not, ◌&&◌, List, [], ◌∷◌, refl, sym, ◌∙◌, ap, subst, arith, Option, Some, None, is_some, IsTrue}
+use Rattle.std.proofs.Common.{◌≡◌, ◌≢◌, ◌↔◌, ◌⊎◌, inl, inr, ⊎_elim, ℕ, ◌==◌, ◌≤◌, Bool, true, false, not, ◌&&◌, List, [], ◌∷◌, refl, sym, ◌∙◌, ap, subst, arith, Option, Some, None, is_some, IsTrue, if◌then◌else◌}
 use Rattle.std.proofs.lemmas.Bool.{eqb-true, eq-eqb}
 use Rattle.std.proofs.lemmas.Option.{same_Some}
 use Rattle.std.specs.Option.{option_map}
@@ -17,7 +17,10 @@ use Rattle.step_trees.specs.Steps.{call_of, undo_of, IsStep, IsBefore, IsAfter}
 use Rattle.step_trees.proofs.StepLemmas.{can_step}
 use Rattle.step_trees.proofs.ChoiceLemmas.{not_both}
 use Rattle.step_trees.proofs.NameLemmas.{are_names, not_root, not_root_outside}
-use Rattle.step_looks.specs.Looks.{is_of_mode, is_before, is_after, can_go_back, is_none_of, is_empty_dir}
+use Rattle.tree_core.proofs.NameLemmas.{names_end}
+use Rattle.step_looks.specs.declared.looking.Seen.{Seen}
+use Rattle.step_looks.specs.declared.looking.Seen.TheVariants.{Before, After}
+use Rattle.step_looks.specs.Looks.{is_of_mode, is_before, is_after, can_go_back, is_none_of, is_empty_dir, seen_by, look_of, look_back_of}
 
 not_some : (o : Option Node) → not (is_some o) ≡ true → o ≡ None
 not_some None e = refl
@@ -87,11 +90,11 @@ none_of [] e = refl
 none_of (n ∷ l) e = cc
 
 -- a lawful step that is no more to be done can be undone
-pub can_undo_back : (s : Step) (t : FileTree) → IsStep s → ((p : Names) → (names_in t p ≡ []) ↔ IsEmptyAt t p) → can_go_back s t ≡ true → CanDo (undo_of s) t
-can_undo_back (MakeDir p) t lawful ends e =
+pub can_undo_back : (s : Step) (t : FileTree) → IsStep s → can_go_back s t ≡ true → CanDo (undo_of s) t
+can_undo_back (MakeDir p) t lawful e =
     let b = and_true (is_dir_node (get t p)) (is_none_of (names_in t p)) e in
-    (b.0, not_root_outside p lawful.lawful, (ends p).0 (none_of (names_in t p) b.1))
-can_undo_back (Rename from to) t lawful ends e =
+    (b.0, not_root_outside p lawful.lawful, (names_end t p).0 (none_of (names_in t p) b.1))
+can_undo_back (Rename from to) t lawful e =
     let a = after_is (Rename from to) t e in
     record {
       named = are_names from (lawful.paths.0).names;
@@ -101,7 +104,7 @@ can_undo_back (Rename from to) t lawful ends e =
       parent_is_dir = a.2;
       apart = lawful.lawful.3;
     }
-can_undo_back (Mode p old new) t lawful ends e = let a = after_is (Mode p old new) t e in (a.0, lawful.lawful.1)
+can_undo_back (Mode p old new) t lawful e = let a = after_is (Mode p old new) t e in (a.0, lawful.lawful.1)
 
 -- no lawful step is to be done and can be undone
 pub not_both_tests : (s : Step) (t : FileTree) → IsStep s → can_go_back s t ≡ true → is_before s t ≡ false
@@ -110,3 +113,36 @@ not_both_tests s t lawful e = by_test (is_before s t) refl
     by_test : (b : Bool) → is_before s t ≡ b → is_before s t ≡ false
     by_test false is = is
     by_test true is = absurd (not_both s t lawful (before_is s t is) (back_is_after s t e))
+
+-- ---- a look at a directory that may be undone
+
+dir_told : (a b c empty : Bool) → seen_by a b ≡ Some After → empty ≡ c → (if empty then Some After else None) ≡ seen_by a (b && c)
+dir_told true b c empty seen same = cc
+dir_told false false c empty seen same = cc
+dir_told false true c empty seen same = ap (λ x. if x then Some After else None) same
+
+same_truth : (a : Bool) (l : List (List ℕ)) (P : Type 0) → (IsTrue a ↔ P) → ((l ≡ []) ↔ P) → a ≡ is_none_of l
+same_truth true [] P one two = refl
+same_truth false [] P one two = one.1 (two.0 refl)
+same_truth true (n ∷ l) P one two = let no : n ∷ l ≡ [] = two.1 (one.0 refl) in cc
+same_truth false (n ∷ l) P one two = refl
+
+pub dir_back : (t : FileTree) (p : Names) (empty : Bool) → look_of (MakeDir p) t ≡ Some After → (IsTrue empty ↔ IsEmptyAt t p) → (if empty then Some After else None) ≡ look_back_of (MakeDir p) t
+dir_back t p empty seen is =
+    dir_told (not (is_some (get t p)) && is_dir_node (get t (parent p))) (is_dir_node (get t p)) (is_none_of (names_in t p)) empty seen (same_truth empty (names_in t p) (IsEmptyAt t p) is (names_end t p))
+
+-- a look of a lawful step tells that it was done exactly where it can be undone
+pub told_back : (s : Step) (t : FileTree) → IsStep s → look_back_of s t ≡ Some After → can_go_back s t ≡ true
+told_back s t lawful seen = by_tests (is_before s t) (can_go_back s t) seen
+  where
+    by_tests : (a b : Bool) → seen_by a b ≡ Some After → b ≡ true
+    by_tests true b e = cc
+    by_tests false true e = refl
+    by_tests false false e = cc
+
+pub told_not : (s : Step) (t : FileTree) → IsStep s → (look_back_of s t ≡ Some After → ⊥) → can_go_back s t ≡ false
+told_not s t lawful other = by_tests (can_go_back s t) refl
+  where
+    by_tests : (b : Bool) → can_go_back s t ≡ b → can_go_back s t ≡ false
+    by_tests false e = e
+    by_tests true e = absurd (other (ap (λ a. seen_by a (can_go_back s t)) (not_both_tests s t lawful e) ∙ ap (λ b. seen_by false b) e))

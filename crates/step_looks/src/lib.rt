@@ -3,6 +3,8 @@
 
 mod looking;
 mod parent_paths;
+mod undoing;
 
 pub use looking::{Seen, look, look_back};
 pub use parent_paths::{Parents, parents_of};
+pub use undoing::{any_done, undo_done};
