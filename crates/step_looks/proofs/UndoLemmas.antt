@@ -1,5 +1,5 @@
 -- Steps undone as looks tell.
-use Rattle.std.proofs.Common.{◌≡◌, inl, inr, ℕ, zero, suc, ◌+◌, ◌<◌, Bool, true, false, List, [], ◌∷◌, ◌++◌, length, take, map, get_or, refl, sym, ◌∙◌, ap, subst, arith, append_assoc}
+use Rattle.std.proofs.Common.{◌≡◌, inl, inr, ℕ, zero, suc, ◌+◌, ◌-◌, ◌<◌, Result, Err, Bool, true, false, List, [], ◌∷◌, ◌++◌, length, take, map, get_or, refl, sym, ◌∙◌, ap, subst, arith, append_assoc}
 use Rattle.std.proofs.lemmas.List.{take_more}
 use Rattle.std.proofs.Math.Seq.{take-append_seam}
 use Rattle.std.specs.List.{AllByRecursion}
@@ -15,7 +15,7 @@ use Rattle.step_trees.specs.Steps.{undo_of, IsStep}
 use Rattle.commit_states.specs.Calls.{undo_calls}
 use Rattle.step_looks.specs.Looks.{can_go_back, parents_of, AreParents}
 use Rattle.step_looks.specs.declared.parent_paths.Parents.{Parents}
-use Rattle.step_looks.specs.Undoing.{undone, and_where, to_undo, LookedIn}
+use Rattle.step_looks.specs.Undoing.{undone, and_where, to_undo, LookedIn, RanOrLooked}
 
 -- no step writes a file, so the next file number doesn't matter
 pub undo_alike : (s : Step) (n : ℕ) (t : FileTree) → done (undo_of s) n t ≡ done (undo_of s) 0 t
@@ -142,3 +142,19 @@ parents_at steps parents k s p within are s_is p_is = p_is ∙ ap (λ (l : List 
     by_place [] k within is = absurd (omega arith)
     by_place (x ∷ steps) zero within is = ap parents_of (sym is)
     by_place (x ∷ steps) (suc k) within is = by_place steps k (omega arith) is
+
+-- ---- behind a look
+
+-- which left the tree
+pub undoing_seen : (steps : List Step) (k : ℕ) (began now new : History) → 0 < k → new ≡ now → Undoing steps k began now → Undoing steps (k - 1 + 1) began new
+undoing_seen steps k began now new some same u =
+    let e : k ≡ k - 1 + 1 = omega (arith, some) in
+    subst (λ n. Undoing steps n began new) e (subst (Undoing steps k began) (sym same) u)
+
+-- an error that a look told
+pub ran_looked : {T : Type 0} (calls : List Change) (old new : History) (before after : FileTree) (result : Result T CallName) (first : CallName) → result ≡ Err first → LookedIn calls old new after → RanOrLooked calls old new before after result
+ran_looked calls old new before after result first is looked = subst (RanOrLooked calls old new before after) (sym is) (inr looked)
+
+-- or a call
+pub ran_failed : {T : Type 0} (calls : List Change) (old new : History) (before after : FileTree) (result : Result T CallName) (first : CallName) → result ≡ Err first → FailedIn calls old new after first → RanOrLooked calls old new before after result
+ran_failed calls old new before after result first is failed = subst (RanOrLooked calls old new before after) (sym is) (inl failed)

@@ -32,8 +32,9 @@ pub fn undo_done<T: Tree>(
     ensures faults { NamesFault (T.faults tree.old) (T.faults tree.new) result }
 {
     for k in (0..steps.len()).rev() {
-        if look_back(tree, &steps[k], &parents[k])? == Some(Seen::After) {
-            undo(tree, &steps[k])?;
+        let step = &steps[k];
+        if look_back(tree, step, &parents[k])? == Some(Seen::After) {
+            undo(tree, step)?;
         }
     }
     Ok(())
