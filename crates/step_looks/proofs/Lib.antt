@@ -1,3 +1,4 @@
 pub mod ParentLemmas
 pub mod TestLemmas
 pub mod UndoLemmas
+pub mod TellLemmas
