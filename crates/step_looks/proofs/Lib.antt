@@ -2,3 +2,4 @@ pub mod ParentLemmas
 pub mod TestLemmas
 pub mod UndoLemmas
 pub mod TellLemmas
+pub mod RedoLemmas

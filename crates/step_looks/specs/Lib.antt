@@ -1,3 +1,4 @@
 pub mod Looks
 pub mod Undoing
+pub mod Redoing
 pub mod Laws
