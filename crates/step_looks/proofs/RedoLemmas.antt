@@ -138,3 +138,7 @@ module _ (steps : List Step) (from k : ℕ) (s : Step) (within : k < length step
         subst (λ (l : List Change). FailedIn l began new before first) (sym calls)
         (failed_first (do_calls u.earlier ++ call_of s ∷ []) (do_calls (to_redo behind (step_done s t))) began new before first
         (failed_rest (do_calls u.earlier) (call_of s ∷ []) began new before first here))
+
+pub other_seen : (o : Option Seen) (seen : Seen) → o ≡ Some seen → (seen ≡ Before → ⊥) → o ≡ Some After
+other_seen o Before is other = absurd (other refl)
+other_seen o After is other = is

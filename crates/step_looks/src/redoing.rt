@@ -41,9 +41,9 @@ pub fn redo<T: Tree>(
     for k in 0..steps.len() {
         let step = &steps[k];
         match look(tree, step, &parents[k])? {
-            Some(Seen::Before) => do_step(tree, step)?,
-            Some(Seen::After) => {}
             None => return Ok(Some(from + k)),
+            Some(Seen::After) => continue,
+            Some(Seen::Before) => do_step(tree, step)?,
         }
     }
     Ok(None)
