@@ -3,3 +3,4 @@ pub mod TestLemmas
 pub mod UndoLemmas
 pub mod TellLemmas
 pub mod RedoLemmas
+pub mod StrictLemmas

@@ -11,4 +11,4 @@ pub use laws::{looks_tell_what_was_done, tests_are_right};
 pub use looking::{Seen, look, look_back};
 pub use parent_paths::{Parents, parents_of};
 pub use redoing::redo;
-pub use undoing::{any_done, undo_done};
+pub use undoing::{any_done, undo_done, undo_strictly};

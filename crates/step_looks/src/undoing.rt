@@ -1,5 +1,5 @@
 // Steps undone as looks tell.
-ghost use Rattle.std.specs.Prelude.{◌≡◌, IfOk, Some};
+ghost use Rattle.std.specs.Prelude.{◌≡◌, ◌+◌, ◌<◌, ◌^◌, IfOk, Some, length, reverse};
 ghost use Rattle.std.specs.List.{AllByRecursion};
 ghost use Rattle.tree_core.specs.FileTree.{CanDo};
 ghost use Rattle.tree_core.specs.Faults.{NamesFault};
@@ -8,6 +8,7 @@ ghost use Rattle.tree_core.specs.Looks.{OnlyLooked, failed_in};
 ghost use Rattle.step_trees.specs.Steps.{IsStep, undo_of};
 ghost use Rattle.commit_states.specs.Calls.{undo_calls};
 ghost use Rattle.step_looks.specs.Looks.{AreParents};
+ghost use Rattle.step_looks.specs.Strictly.{strange_back, to_undo_strictly};
 ghost use Rattle.step_looks.specs.Undoing.{any_goes_back, to_undo, RanOne, RanOrLooked};
 
 use crate::{Parents, Seen, look_back};
@@ -63,6 +64,37 @@ pub fn any_done<T: Tree>(
         }
     }
     Ok(false)
+}
+
+/// Undoes the steps of which a look tells that they were done and can be undone, from the last to the first, and leaves those that
+/// are still to be done. Ends behind the last step of which a look tells neither, and answers its number; `from` is the number of
+/// the first one. `parents` has those of each step.
+///
+/// # Errors
+/// The look or the call of this name failed. The calls before it were done.
+pub fn undo_strictly<T: Tree>(
+    tree: &mut T,
+    steps: &[Step],
+    parents: &[Parents],
+    from: usize,
+) -> Result<Option<usize>, CallName>
+    requires steps { AllByRecursion IsStep steps.now }
+    requires parents { AreParents steps.now parents.now }
+    requires few { from + length steps.now < 2 ^ 64 }
+    ensures ran { T.Tells → RanOrLooked (undo_calls (to_undo_strictly (reverse steps.now) (current_tree (T.history tree.old))))
+        (T.history tree.old) (T.history tree.new) (T.before_failed tree.old) (T.before_failed tree.new) result }
+    ensures strange { T.Tells → IfOk result (λ strange. strange ≡ strange_back from (reverse steps.now) (current_tree (T.history tree.old))) }
+    ensures faults { NamesFault (T.faults tree.old) (T.faults tree.new) result }
+{
+    for k in (0..steps.len()).rev() {
+        let step = &steps[k];
+        match look_back(tree, step, &parents[k])? {
+            None => return Ok(Some(from + k)),
+            Some(Seen::Before) => continue,
+            Some(Seen::After) => undo(tree, step)?,
+        }
+    }
+    Ok(None)
 }
 
 // Undoes a step.
