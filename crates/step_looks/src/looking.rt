@@ -31,11 +31,7 @@ pub enum Seen {
 ///
 /// # Errors
 /// The look of this name failed.
-pub fn look<T: Tree>(
-    tree: &mut T,
-    step: &Step,
-    parents: &Parents,
-) -> Result<Option<Seen>, CallName>
+pub fn look<T: Tree>(tree: &mut T, step: &Step, parents: &Parents) -> Result<Option<Seen>, CallName>
     requires parents { parents.now ≡ parents_of step.now }
     ensures seen { T.Tells → IfOk result (λ seen. seen ≡ look_of step.now (current_tree (T.history tree.old))) }
     ensures looked { T.Tells → OnlyLooked (failed_in (λ call. Some call) result)
@@ -142,11 +138,7 @@ fn seen_where(holds: bool, seen: Seen) -> Option<Seen>
 }
 
 // A look at a directory that is to be made.
-fn look_dir<T: Tree>(
-    tree: &mut T,
-    path: &Path,
-    parent: &Path,
-) -> Result<Option<Seen>, CallName>
+fn look_dir<T: Tree>(tree: &mut T, path: &Path, parent: &Path) -> Result<Option<Seen>, CallName>
     requires parent { parent.now ≡ parent_of path.now }
     ensures seen { T.Tells → IfOk result (λ seen. seen ≡ look_of (step_variant.MakeDir path.now) (current_tree (T.history tree.old))) }
     ensures looked { T.Tells → OnlyLooked (failed_in (λ call. Some call) result)

@@ -21,11 +21,7 @@ use tree_core::{CallName, Tree};
 ///
 /// # Errors
 /// The look or the call of this name failed. The calls before it were done.
-pub fn undo_done<T: Tree>(
-    tree: &mut T,
-    steps: &[Step],
-    parents: &[Parents],
-) -> Result<(), CallName>
+pub fn undo_done<T: Tree>(tree: &mut T, steps: &[Step], parents: &[Parents]) -> Result<(), CallName>
     requires steps { AllByRecursion IsStep steps.now }
     requires parents { AreParents steps.now parents.now }
     ensures ran { T.Tells → RanOrLooked (undo_calls (to_undo steps.now (current_tree (T.history tree.old))))

@@ -23,7 +23,7 @@ returns-in_err-look-clause-ran g c tells =
     let tree : T.before_failed c.look.new.tree ≡ current_tree now = search rules in
     let is : c.from_residual.result ≡ Err c.in_err-look.field-0.0 = search rules in
     ran_looked (do_calls (to_redo steps (current_tree began))) began new (T.before_failed c.args.tree.now) (T.before_failed c.look.new.tree) c.from_residual.result c.in_err-look.field-0.0 is
-        (looked_on steps c.args.from c.loop-k.k began now (c.loop-k.invariant.redoing tells) new (T.before_failed c.look.new.tree) same tree)
+    (looked_on steps c.args.from c.loop-k.k began now (c.loop-k.invariant.redoing tells) new (T.before_failed c.look.new.tree) same tree)
 
 pub do_step-requires : goal.do_step-requires
 do_step-requires g c = record {
@@ -53,7 +53,7 @@ returns-in_err-do_step-in-Some-Before-clause-ran g c tells =
     let failed : FailedCall (call_of step) now new (T.before_failed c.do_step.new.tree) first = search rules in
     let is : c.from_residual-in_err-do_step-in-Some-Before.result ≡ Err first = search rules in
     ran_failed (do_calls (to_redo steps (current_tree began))) began new (T.before_failed c.args.tree.now) (T.before_failed c.do_step.new.tree) c.from_residual-in_err-do_step-in-Some-Before.result first is
-        (redo_failed steps c.args.from c.loop-k.k step within c.index-steps-k.is began now u told new (T.before_failed c.do_step.new.tree) first failed)
+    (redo_failed steps c.args.from c.loop-k.k step within c.index-steps-k.is began now u told new (T.before_failed c.do_step.new.tree) first failed)
 
 pub loop-k-preserved : goal.loop-k-preserved
 loop-k-preserved g c =
@@ -73,4 +73,3 @@ loop-k-preserved g c =
       before = search rules;
       faults = search rules;
     }
-

@@ -24,7 +24,7 @@ returns-in_err-look_back-clause-ran g c tells =
     let tree : T.before_failed c.look_back.new.tree ≡ current_tree now = search rules in
     let is : c.from_residual.result ≡ Err c.in_err-look_back.field-0.0 = search rules in
     ran_looked (undo_calls (to_undo steps (current_tree began))) began new (T.before_failed c.args.tree.now) (T.before_failed c.look_back.new.tree) c.from_residual.result c.in_err-look_back.field-0.0 is
-        (looked_in steps c.loop-k.k began now (c.loop-k.invariant.undoing tells) new (T.before_failed c.look_back.new.tree) same tree)
+    (looked_in steps c.loop-k.k began now (c.loop-k.invariant.undoing tells) new (T.before_failed c.look_back.new.tree) same tree)
 
 pub undo-requires : goal.undo-requires
 undo-requires g c = record {
@@ -76,7 +76,7 @@ returns-in_err-undo-clause-ran g c tells =
     let failed : FailedCall (undo_of step) now new (T.before_failed c.undo.new.tree) first = search rules in
     let is : c.from_residual-in_err-undo.result ≡ Err first = search rules in
     ran_failed (undo_calls (to_undo steps (current_tree began))) began new (T.before_failed c.args.tree.now) (T.before_failed c.undo.new.tree) c.from_residual-in_err-undo.result first is
-        (undo_failed steps (c.loop-k.k - 1) step within c.index-steps-k.is began now u (told_back step (current_tree now) lawful told) new (T.before_failed c.undo.new.tree) first failed)
+    (undo_failed steps (c.loop-k.k - 1) step within c.index-steps-k.is began now u (told_back step (current_tree now) lawful told) new (T.before_failed c.undo.new.tree) first failed)
 
 pub loop-k-preserved : goal.loop-k-preserved
 loop-k-preserved g c =

@@ -24,7 +24,7 @@ returns-in_err-look_back-clause-ran g c tells =
     let tree : T.before_failed c.look_back.new.tree ≡ current_tree now = search rules in
     let is : c.from_residual.result ≡ Err c.in_err-look_back.field-0.0 = search rules in
     ran_looked (undo_calls (to_undo_strictly (reverse steps) (current_tree began))) began new (T.before_failed c.args.tree.now) (T.before_failed c.look_back.new.tree) c.from_residual.result c.in_err-look_back.field-0.0 is
-        (looked_back steps c.args.from c.loop-k.k began now (c.loop-k.invariant.turning tells) new (T.before_failed c.look_back.new.tree) same tree)
+    (looked_back steps c.args.from c.loop-k.k began now (c.loop-k.invariant.turning tells) new (T.before_failed c.look_back.new.tree) same tree)
 
 pub undo-requires : goal.undo-requires
 undo-requires g c = record {
@@ -74,4 +74,4 @@ returns-in_err-undo-in-Some-After-clause-ran g c tells =
     let failed : FailedCall (undo_of step) now new (T.before_failed c.undo.new.tree) first = search rules in
     let is : c.from_residual-in_err-undo-in-Some-After.result ≡ Err first = search rules in
     ran_failed (undo_calls (to_undo_strictly (reverse steps) (current_tree began))) began new (T.before_failed c.args.tree.now) (T.before_failed c.undo.new.tree) c.from_residual-in_err-undo-in-Some-After.result first is
-        (turn_failed steps c.args.from (c.loop-k.k - 1) step within c.index-steps-k.is began now u told new (T.before_failed c.undo.new.tree) first failed)
+    (turn_failed steps c.args.from (c.loop-k.k - 1) step within c.index-steps-k.is began now u told new (T.before_failed c.undo.new.tree) first failed)
