@@ -10,7 +10,7 @@ use Rattle.tree_core.specs.Runs.{then_all, FailedIn, FailedCall}
 use Rattle.tree_core.proofs.Runs.{then_all-append, failed_first, failed_rest}
 use Rattle.commit_steps.specs.declared.step.Step.{Step}
 use Rattle.commit_steps.specs.declared.step.Step.TheVariants.{MakeDir, Rename, Mode}
-use Rattle.step_trees.specs.Steps.{call_of, step_done, IsStep, IsBefore}
+use Rattle.step_trees.specs.Steps.{call_of, step_done, IsStep}
 use Rattle.step_trees.proofs.StepLemmas.{can_step}
 use Rattle.commit_states.specs.Calls.{do_calls}
 use Rattle.step_looks.specs.declared.looking.Seen.{Seen}

@@ -1,5 +1,5 @@
 -- What looks tell of a tree in which a journal and a marker stand.
-use Rattle.std.proofs.Common.{◌≡◌, ◌↔◌, inl, inr, ⊎_elim, ℕ, zero, suc, ◌+◌, ◌<◌, ◌≤◌, Bool, true, false, ◌||◌, List, [], ◌∷◌, length, take, refl, sym, ◌∙◌, ap, subst, arith, Option, Some, None, is_some, IsTrue}
+use Rattle.std.proofs.Common.{◌≡◌, ◌↔◌, inl, inr, ⊎_elim, ℕ, zero, suc, ◌+◌, ◌≤◌, Bool, true, false, ◌||◌, List, [], ◌∷◌, length, refl, sym, ◌∙◌, ap, subst, arith, Option, Some, is_some, IsTrue}
 use Rattle.std.specs.Option.{option_map}
 use Rattle.std.specs.List.{AllByRecursion}
 use Rattle.std.specs.FinMap.{get}
@@ -17,7 +17,7 @@ use Rattle.commit_steps.specs.Steps.{HasPaths}
 use Rattle.step_trees.specs.Apart.{IsApartStep}
 use Rattle.step_trees.specs.Entries.{without}
 use Rattle.step_trees.specs.Groups.{groups, to_next_cut, from_last_cut, ComesBySome, taken_of}
-use Rattle.step_trees.specs.Leads.{start, at_place, Leads}
+use Rattle.step_trees.specs.Leads.{at_place, Leads}
 use Rattle.step_trees.specs.Steps.{undo_of, step_done, after, IsStep, IsBefore, IsAfter}
 use Rattle.step_trees.proofs.NameLemmas.{IsOwn, own-plan, own-at, own-back}
 use Rattle.step_trees.proofs.StepLemmas.{apart_lawful, same_stood, absent_stood, dir_stood}

@@ -1,5 +1,5 @@
 -- What the tests say.
-use Rattle.std.proofs.Common.{◌≡◌, ◌≢◌, ◌↔◌, ◌⊎◌, inl, inr, ⊎_elim, ℕ, ◌==◌, ◌≤◌, Bool, true, false, not, ◌&&◌, List, [], ◌∷◌, refl, sym, ◌∙◌, ap, subst, arith, Option, Some, None, is_some, IsTrue, if◌then◌else◌}
+use Rattle.std.proofs.Common.{◌≡◌, ◌↔◌, ℕ, Bool, true, false, not, ◌&&◌, List, [], ◌∷◌, refl, ◌∙◌, ap, Option, Some, None, is_some, IsTrue, if◌then◌else◌}
 use Rattle.std.proofs.lemmas.Bool.{eqb-true, eq-eqb}
 use Rattle.std.proofs.lemmas.Option.{same_Some}
 use Rattle.std.specs.Option.{option_map}
@@ -7,20 +7,16 @@ use Rattle.std.specs.FinMap.{get}
 use Rattle.dired_text.specs.Paths.{Names, parent}
 use Rattle.tree_core.specs.declared.node.Node.{Node}
 use Rattle.tree_core.specs.declared.node.Node.TheVariants.{Dir, Link, File}
-use Rattle.tree_core.specs.declared.node.Kind.{Kind}
-use Rattle.tree_core.specs.declared.node.Kind.TheVariants as kind
-use Rattle.tree_core.specs.FileTree.{FileTree, IsAbsent, IsEmptyAt, CanDo, kind_of, mode_of, is_dir_node, has_mode_node}
+use Rattle.tree_core.specs.FileTree.{FileTree, IsEmptyAt, CanDo, mode_of, is_dir_node, has_mode_node}
 use Rattle.tree_core.specs.Fields.{names_in}
 use Rattle.commit_steps.specs.declared.step.Step.{Step}
 use Rattle.commit_steps.specs.declared.step.Step.TheVariants.{MakeDir, Rename, Mode}
-use Rattle.step_trees.specs.Steps.{call_of, undo_of, IsStep, IsBefore, IsAfter}
-use Rattle.step_trees.proofs.StepLemmas.{can_step}
+use Rattle.step_trees.specs.Steps.{undo_of, IsStep, IsBefore, IsAfter}
 use Rattle.step_trees.proofs.ChoiceLemmas.{not_both}
 use Rattle.step_trees.proofs.NameLemmas.{are_names, not_root, not_root_outside}
 use Rattle.tree_core.proofs.NameLemmas.{names_end}
-use Rattle.step_looks.specs.declared.looking.Seen.{Seen}
-use Rattle.step_looks.specs.declared.looking.Seen.TheVariants.{Before, After}
-use Rattle.step_looks.specs.Looks.{is_of_mode, is_before, is_after, can_go_back, is_none_of, is_empty_dir, seen_by, look_of, look_back_of}
+use Rattle.step_looks.specs.declared.looking.Seen.TheVariants.{After}
+use Rattle.step_looks.specs.Looks.{is_of_mode, is_before, is_after, can_go_back, is_none_of, seen_by, look_of, look_back_of}
 
 not_some : (o : Option Node) → not (is_some o) ≡ true → o ≡ None
 not_some None e = refl

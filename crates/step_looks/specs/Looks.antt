@@ -1,5 +1,5 @@
 -- What looks at a step tell, as tests.
-use Rattle.std.specs.Prelude.{◌≡◌, ◌↔◌, ℕ, ◌==◌, Bool, true, false, not, ◌&&◌, List, [], ◌∷◌, map, Option, Some, None, is_some, IsTrue, if◌then◌else◌}
+use Rattle.std.specs.Prelude.{◌≡◌, ℕ, ◌==◌, Bool, true, false, not, ◌&&◌, List, [], ◌∷◌, map, Option, Some, None, is_some, if◌then◌else◌}
 use Rattle.std.specs.FinMap.{get}
 use Rattle.dired_text.specs.Paths.{Names, parent}
 use Rattle.tree_core.specs.declared.node.Node.{Node}

@@ -1,6 +1,6 @@
-use Rattle.std.proofs.Common.{rules, ◌≡◌, ◌↔◌, ◌∙◌, ap, sym, subst, Some, None, IsTrue, if◌then◌else◌}
+use Rattle.std.proofs.Common.{rules, ◌≡◌, ◌↔◌, ◌∙◌, sym, Some, IsTrue}
 use Rattle.tree_core.specs.FileTree.{IsEmptyAt}
-use Rattle.tree_core.specs.History.{History, current_tree}
+use Rattle.tree_core.specs.History.{current_tree}
 use Rattle.commit_steps.specs.declared.step.Step.TheVariants as step_variant
 use Rattle.step_looks.specs.Looks.{look_of}
 use Rattle.step_looks.specs.declared.looking.Seen.TheVariants as seen

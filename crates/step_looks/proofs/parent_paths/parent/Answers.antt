@@ -1,4 +1,4 @@
-use Rattle.std.proofs.Common.{rules, ◌≤◌, ◌-◌, length, take}
+use Rattle.std.proofs.Common.{rules, ◌≤◌, take}
 use Rattle.dired_text.specs.Paths.{path_bytes}
 use Rattle.step_looks.proofs.ParentLemmas.{first_is_short}
 use Rattle.step_looks.proofs.parent_paths.parent.Goals as goal

@@ -1,7 +1,5 @@
-use Rattle.std.proofs.Common.{rules, ◌≡◌, ◌∙◌, ap, sym, subst, ◌<◌, ◌-◌, ◌+◌, length, Some, None, Err, true, false}
-use Rattle.std.specs.List.{AllByRecursion}
-use Rattle.tree_core.specs.FileTree.{CanDo}
-use Rattle.tree_core.specs.History.{History, current_tree}
+use Rattle.std.proofs.Common.{rules, ◌≡◌, ◌<◌, length, Some, Err}
+use Rattle.tree_core.specs.History.{current_tree}
 use Rattle.tree_core.specs.Runs.{FailedCall}
 use Rattle.step_trees.specs.Steps.{IsStep, call_of}
 use Rattle.commit_states.specs.Calls.{do_calls}
@@ -9,7 +7,7 @@ use Rattle.step_looks.specs.Looks.{look_of}
 use Rattle.step_looks.specs.declared.looking.Seen.TheVariants as seen
 use Rattle.step_looks.specs.Redoing.{to_redo}
 use Rattle.step_looks.proofs.UndoLemmas.{step_of, ran_looked, ran_failed}
-use Rattle.step_looks.proofs.RedoLemmas.{Redoing, can_do_before, looked_on, redoing_seen, redoing_left, redoing_next, redo_failed, other_seen}
+use Rattle.step_looks.proofs.RedoLemmas.{Redoing, can_do_before, looked_on, redoing_seen, redoing_next, redo_failed}
 use Rattle.step_looks.proofs.redoing.redo.Goals as goal
 
 pub returns-in_err-look-clause-ran : goal.returns-in_err-look-clause-ran

@@ -1,12 +1,9 @@
-use Rattle.std.proofs.Common.{rules, ◌≡◌, ◌∙◌, ap, sym, subst, ◌<◌, ◌-◌, ◌+◌, length, Some, Err, true, false}
-use Rattle.std.specs.List.{AllByRecursion}
-use Rattle.tree_core.specs.declared.node.CallName.{CallName}
-use Rattle.tree_core.specs.FileTree.{CanDo}
-use Rattle.tree_core.specs.History.{History, current_tree}
+use Rattle.std.proofs.Common.{rules, ◌≡◌, ◌∙◌, ◌<◌, ◌-◌, ◌+◌, length, Some, Err}
+use Rattle.tree_core.specs.History.{current_tree}
 use Rattle.tree_core.specs.Runs.{FailedCall}
 use Rattle.step_trees.specs.Steps.{IsStep, undo_of}
 use Rattle.commit_states.specs.Calls.{undo_calls}
-use Rattle.step_looks.specs.Looks.{can_go_back, look_back_of}
+use Rattle.step_looks.specs.Looks.{look_back_of}
 use Rattle.step_looks.specs.declared.looking.Seen.TheVariants as seen
 use Rattle.step_looks.specs.Undoing.{to_undo}
 use Rattle.step_looks.proofs.TestLemmas.{told_back, told_not, can_undo_back}

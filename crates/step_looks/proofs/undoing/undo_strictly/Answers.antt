@@ -1,16 +1,14 @@
-use Rattle.std.proofs.Common.{rules, ◌≡◌, ◌∙◌, ap, sym, subst, ◌<◌, ◌≤◌, ◌-◌, ◌+◌, length, reverse, Some, None, Err, true, false}
-use Rattle.std.specs.List.{AllByRecursion}
-use Rattle.tree_core.specs.FileTree.{CanDo}
-use Rattle.tree_core.specs.History.{History, current_tree}
+use Rattle.std.proofs.Common.{rules, ◌≡◌, ◌<◌, ◌-◌, ◌+◌, length, reverse, Some, Err}
+use Rattle.tree_core.specs.History.{current_tree}
 use Rattle.tree_core.specs.Runs.{FailedCall}
 use Rattle.step_trees.specs.Steps.{IsStep, undo_of}
 use Rattle.commit_states.specs.Calls.{undo_calls}
 use Rattle.step_looks.specs.Looks.{look_back_of}
 use Rattle.step_looks.specs.declared.looking.Seen.TheVariants as seen
-use Rattle.step_looks.specs.Strictly.{to_undo_strictly, strange_back}
+use Rattle.step_looks.specs.Strictly.{to_undo_strictly}
 use Rattle.step_looks.proofs.TestLemmas.{told_back, can_undo_back}
 use Rattle.step_looks.proofs.UndoLemmas.{step_of, ran_looked, ran_failed}
-use Rattle.step_looks.proofs.StrictLemmas.{Turning, turning_seen, looked_back, turning_left, turning_next, turn_failed, strange_place, turned_here}
+use Rattle.step_looks.proofs.StrictLemmas.{Turning, turning_seen, looked_back, turning_next, turn_failed}
 use Rattle.step_looks.proofs.undoing.undo_strictly.Goals as goal
 
 pub returns-in_err-look_back-clause-ran : goal.returns-in_err-look_back-clause-ran
