@@ -1,0 +1,6 @@
+pub mod ParentLemmas
+pub mod TestLemmas
+pub mod UndoLemmas
+pub mod TellLemmas
+pub mod RedoLemmas
+pub mod StrictLemmas

@@ -1,0 +1,14 @@
+// Laws over the definitions alone.
+ghost use Rattle.step_looks.specs.Laws.{LooksTellOnTheWay, LooksTellOnTheWayBack, TestsAreRight};
+
+/// Each test of a look holds exactly where what it tests does.
+pub fn tests_are_right()
+    ensures { TestsAreRight }
+{}
+
+/// In a tree where a commit was stopped between steps, the steps that looks have undone are those of the group that were done, and
+/// looks tell whether there are any. So it is on the way and on the way back.
+pub fn looks_tell_what_was_done()
+    ensures on_the_way { LooksTellOnTheWay }
+    ensures on_the_way_back { LooksTellOnTheWayBack }
+{}
