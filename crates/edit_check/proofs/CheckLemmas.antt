@@ -16,18 +16,17 @@ use Rattle.edit_words.specs.declared.row.Row.{Row}
 use Rattle.edit_words.specs.declared.findings.Findings.{Findings}
 use Rattle.edit_words.specs.declared.fault.CheckFault.{CheckFault}
 use Rattle.edit_words.specs.declared.fault.CheckFault.TheVariants as fault
-use Rattle.edit_words.specs.Found.{sight_in, HasFindings, IsClosed, IsCovered, IsFreeOr, IsLookAt, IsSeen, failed_call}
+use Rattle.edit_words.specs.Found.{sight_in, HasFindings, HasLawfulMode, IsClosed, IsCovered, IsFreeOr, IsLookAt, IsSeen, failed_call}
 use Rattle.edit_words.specs.Place.{IsAbove}
 use Rattle.edit_check.specs.Checks.{IsAnswer}
 use Rattle.edit_looks.specs.Looks.{IsLookEnd}
 use Rattle.edit_words.specs.declared.seen.Seen.{Seen}
 use Rattle.edit_words.specs.declared.seen.Seen.TheVariants.{Dir}
-use Rattle.edit_words.specs.Sight.{HasLawfulMode, Sight, is_dir, sight_of}
+use Rattle.edit_words.specs.Sight.{Sight, is_dir, sight_of}
 use Rattle.edit_words.specs.Refusals.{first_fault, fault_if, refusal, parents, across, changed_bytes}
 use Rattle.edit_words.specs.Rows.{is_elsewhere}
 use Rattle.edit_words.specs.WellFormed.{CanBeMade}
 use Rattle.edit_check.proofs.SameSight.{refusal_seen}
-use Rattle.edit_words.proofs.FindingsLemmas.{found_here}
 use Rattle.edit_words.proofs.WellFormedLemmas.{taken_alone}
 
 -- ---- What was found can stand in a tree.
@@ -38,7 +37,7 @@ root_dir f closed seen = by_found (get path_cmp f.found []) refl seen
   where
     by_found : (o : Option (Option Seen)) → get path_cmp f.found [] ≡ o → IsTrue (is_some o || false) → is_dir ((sight_in f).at []) ≡ true
     by_found None e is = absurd (false≢true is)
-    by_found (Some found) e is = ap is_dir (found_here f [] found e) ∙ closed.can.root found e
+    by_found (Some found) e is = ap (λ (o : Option (Option Seen)). is_dir (unwrap_or o None)) e ∙ closed.can.root found e
 
 -- and so it is where a path was looked at, and all above it
 pub root_found : (f : Findings) (w : Names) → IsClosed f → IsSeen f w → ((u : Names) → IsAbove u w → IsSeen f u) → is_dir ((sight_in f).at []) ≡ true

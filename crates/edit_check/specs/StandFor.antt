@@ -8,11 +8,11 @@ use Rattle.edit_check.specs.declared.checked.Checked.{Checked}
 use Rattle.edit_words.specs.declared.counts.Counts.{Counts}
 use Rattle.edit_words.specs.declared.row.Row.{Row}
 use Rattle.edit_words.specs.Counting.{counts_of}
-use Rattle.edit_words.specs.Found.{HasFindings, sight_in}
+use Rattle.edit_words.specs.Found.{HasFindings, HasLawfulMode, sight_in}
 use Rattle.edit_words.specs.Place.{IsAbove}
 use Rattle.edit_words.specs.Refusals.{refusal}
 use Rattle.edit_words.specs.Rows.{rows}
-use Rattle.edit_words.specs.Sight.{HasLawfulMode, Sight, is_dir, sight_of}
+use Rattle.edit_words.specs.Sight.{Sight, is_dir, sight_of}
 use Rattle.edit_rules.specs.Plans.{AreMissing, AreModes, ModeChange, victims_of}
 use Rattle.edit_words.specs.WellFormed.{AreAsked, CanBeMade}
 

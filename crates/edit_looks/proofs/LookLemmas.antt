@@ -18,8 +18,8 @@ use Rattle.tree_core.specs.Fields.{AreFields, IsMeta, IsOfKind, Shows}
 use Rattle.edit_words.specs.declared.seen.Seen.{Seen}
 use Rattle.edit_words.specs.declared.findings.Findings.{Findings}
 use Rattle.edit_words.specs.Place.{IsAbove}
-use Rattle.edit_words.specs.Sight.{HasLawfulMode, seen, sight_of, is_dir}
-use Rattle.edit_words.specs.Found.{sight_in, HasFindings, HasGrown, HasOneMore, IsClosed, IsLookedAt, IsSeen}
+use Rattle.edit_words.specs.Sight.{seen, sight_of, is_dir}
+use Rattle.edit_words.specs.Found.{HasLawfulMode, sight_in, HasFindings, HasGrown, HasOneMore, IsClosed, IsLookedAt, IsSeen}
 use Rattle.edit_looks.specs.Looks.{seen_by}
 use Rattle.edit_words.proofs.FindingsLemmas.{dir_stays, seen_below, seen_looked, some_is}
 use Rattle.edit_words.proofs.RefusalLemmas.{dir_decides}

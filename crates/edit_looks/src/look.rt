@@ -4,9 +4,9 @@ ghost use Rattle.std.specs.FinMap.{get};
 ghost use Rattle.std.specs.Option.{option_map};
 ghost use Rattle.tree_core.specs.History.{current_tree};
 ghost use Rattle.edit_looks.specs.declared.look.SeeEnd.TheVariants as end;
-ghost use Rattle.edit_words.specs.Sight.{HasLawfulMode, seen};
+ghost use Rattle.edit_words.specs.Sight.{seen};
 ghost use Rattle.tree_core.specs.Looks.{OnlyLooked, failed_in, faults_with};
-ghost use Rattle.edit_words.specs.Found.{IsLookAt};
+ghost use Rattle.edit_words.specs.Found.{HasLawfulMode, IsLookAt};
 ghost use Rattle.edit_looks.specs.Looks.{seen_by, failed_look, contradicts};
 
 use dired_text::{Failed, Memory, Path};

@@ -15,9 +15,9 @@ use Rattle.tree_core.specs.declared.node.Node.TheVariants.{Dir, Link, File}
 use Rattle.tree_core.specs.FileTree.{FileTree, IsTree, IsDir, Stands, is_dir_node}
 use Rattle.edit_words.specs.declared.seen.Seen.{Seen}
 use Rattle.edit_words.specs.declared.findings.Findings.{Findings}
-use Rattle.edit_words.specs.Sight.{HasLawfulMode, Sight, sight_of, is_dir}
+use Rattle.edit_words.specs.Sight.{Sight, sight_of, is_dir}
 use Rattle.edit_words.specs.Place.{IsAbove, ancestors}
-use Rattle.edit_words.specs.Found.{sight_in, HasFindings, IsSeen, IsClosed, is_no_dir, HasGrown, HasOneMore}
+use Rattle.edit_words.specs.Found.{HasLawfulMode, sight_in, HasFindings, IsSeen, IsClosed, is_no_dir, HasGrown, HasOneMore}
 use Rattle.edit_words.proofs.AboveLemmas.{ancestors_above}
 use Rattle.edit_words.proofs.FindLemmas.{contains_head, contains_tail, contains_none, contains_cases}
 use Rattle.edit_words.proofs.RefusalLemmas.{stands_decides, dir_decides}

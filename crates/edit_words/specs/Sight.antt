@@ -1,11 +1,11 @@
 -- What looks find in a tree.
-use Rattle.std.specs.Prelude.{◌≡◌, ℕ, Bool, true, false, List, [], ◌∷◌, Option, Some, None}
+use Rattle.std.specs.Prelude.{ℕ, Bool, true, false, List, [], ◌∷◌, Option, Some, None}
 use Rattle.std.specs.Option.{option_map}
 use Rattle.std.specs.FinMap.{get}
 use Rattle.dired_text.specs.Paths.{Names}
 use Rattle.tree_core.specs.declared.node.Node.{Node}
 use Rattle.tree_core.specs.declared.node.Node.TheVariants as node
-use Rattle.tree_core.specs.FileTree.{FileTree, IsMode}
+use Rattle.tree_core.specs.FileTree.{FileTree}
 use Rattle.tree_core.specs.Fields.{names_in}
 use Rattle.edit_words.specs.declared.seen.Seen.{Seen}
 use Rattle.edit_words.specs.declared.seen.Seen.TheVariants.{Dir, Link, File}
@@ -48,17 +48,6 @@ number_of None = None
 number_of (Some (Dir mode)) = None
 number_of (Some (Link target)) = None
 number_of (Some (File number mode)) = Some number
-
--- a link has none
-abbrev pub seen_mode : Option Seen → Option ℕ
-seen_mode None = None
-seen_mode (Some (Dir mode)) = Some mode
-seen_mode (Some (Link target)) = None
-seen_mode (Some (File number mode)) = Some mode
-
--- its mode, if it has one, is at most 0o7777
-abbrev pub HasLawfulMode : Option Seen → Type 0
-HasLawfulMode found = (mode : ℕ) → seen_mode found ≡ Some mode → IsMode mode
 
 -- the file number at a path, where there is a path
 abbrev pub number_at : Sight → Option Names → Option ℕ
