@@ -7,9 +7,10 @@ use Rattle.edit_check.specs.declared.checked.Checked.{Checked}
 use Rattle.edit_check.specs.StandFor.{IsChecked, changes_in, found_in}
 use Rattle.edit_words.specs.declared.row.Row.{Row}
 use Rattle.edit_words.specs.declared.seen.Seen.{Seen}
+use Rattle.edit_words.specs.Found.{seen_mode}
 use Rattle.edit_words.specs.Place.{IsAbove}
 use Rattle.edit_words.specs.Rows.{rows}
-use Rattle.edit_words.specs.Sight.{Sight, is_dir, seen_mode}
+use Rattle.edit_words.specs.Sight.{Sight, is_dir}
 use Rattle.plan_journals.proofs.Taken.{AreTaken}
 use Rattle.plan_journals.proofs.StepPaths.{outside_root}
 
