@@ -1,5 +1,5 @@
 -- What blocks a change, and that it is ready where nothing does.
-use Rattle.std.proofs.Common.{◌≡◌, ◌≢◌, ◌⊎◌, inl, inr, ℕ, zero, suc, ◌<◌, Bool, true, false, ◌&&◌, ◌||◌, not, List, [], ◌∷◌, refl, sym, ◌∙◌, ap, subst, Option, Some, None, is_some}
+use Rattle.std.proofs.Common.{◌≡◌, ◌≢◌, ◌⊎◌, inl, inr, ℕ, zero, suc, Bool, true, false, ◌&&◌, ◌||◌, not, List, [], ◌∷◌, refl, sym, ◌∙◌, ap, subst, Option, Some, None, is_some}
 use Rattle.std.specs.List.{list_any, slice_get}
 use Rattle.std.specs.BTreeMap.{BTreeMap, get}
 use Rattle.std.proofs.lemmas.Option.{same_Some}
@@ -7,16 +7,16 @@ use Rattle.std.proofs.lemmas.Bool.{cases_Bool}
 use Rattle.dired_text.specs.Paths.{Names, parent, path_cmp}
 use Rattle.edit_words.specs.declared.row.Row.{Row}
 use Rattle.edit_words.specs.Place.{IsAbove, is_above}
-use Rattle.edit_words.specs.Rows.{is_at, is_elsewhere_of, is_same_path, written, written_of}
+use Rattle.edit_words.specs.Rows.{is_at, is_elsewhere_of, written, written_of}
 use Rattle.edit_words.specs.WellFormed.{IsNoRoot}
 use Rattle.edit_words.proofs.AboveLemmas.{above_decides}
 use Rattle.edit_words.proofs.SameLemmas.{same_path, same_itself}
-use Rattle.plan_moves.specs.Waiting.{is_above_source, is_free, is_in_place, is_unkept, keeps_in_place}
+use Rattle.plan_moves.specs.Waiting.{is_above_source, is_free, is_in_place, is_unkept}
 use Rattle.commit_plan.specs.declared.changes.Stand.{Stand}
 use Rattle.commit_plan.specs.declared.changes.Stand.TheVariants.{Left, Waits}
 use Rattle.commit_plan.specs.declared.changes.Change.{Change}
 use Rattle.commit_plan.specs.Stands.{IsSpelledAt, change, is_ready_at, is_ready_in, is_source_now, keeps_now, waits_at_source, waits_of}
-use Rattle.commit_plan.specs.Boards.{AreRooted, Blocks, HasKeepers, IsAtSource, IsBlocker, IsKeeper, IsKeeperBelow, IsUnblocked, NoKeeperBelow, NoneAtSource, keeps_above}
+use Rattle.commit_plan.specs.Boards.{AreRooted, Blocks, HasKeepers, IsAtSource, IsBlocker, IsKeeperBelow, IsUnblocked, NoKeeperBelow, NoneAtSource, keeps_above}
 use Rattle.commit_plan.proofs.PathOrder.{above_in_dir}
 use Rattle.commit_plan.proofs.ReadyLemmas.{any_keeper, any_source, spelled_to}
 

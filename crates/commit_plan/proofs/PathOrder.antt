@@ -1,9 +1,9 @@
 -- The order of paths, and what is below a path.
-use Rattle.std.proofs.Common.{◌≡◌, ◌≢◌, ◌⊎◌, inl, inr, ℕ, zero, suc, ◌+◌, ◌<◌, ◌≤◌, Bool, true, false, ◌&&◌, ◌||◌, not, List, [], ◌∷◌, ◌++◌, length, drop, refl, sym, ◌∙◌, ap, subst, arith, append_assoc, Option, Some, None, IfSome, IsSome, is_some}
-use Rattle.std.specs.Ordering.{is_gt, is_lt, is_eq, ordering_then, ordering_reverse, nat_cmp}
+use Rattle.std.proofs.Common.{◌≡◌, ◌≢◌, ℕ, true, false, not, List, [], ◌∷◌, ◌++◌, refl, sym, ◌∙◌, ap, subst, append_assoc, Option, Some, None, IfSome, IsSome, is_some}
+use Rattle.std.specs.Ordering.{is_gt, ordering_then, ordering_reverse, nat_cmp}
 use Rattle.std.specs.declared.cmp.Ordering.{Ordering}
 use Rattle.std.specs.declared.cmp.Ordering.TheVariants.{Less, Equal, Greater}
-use Rattle.std.specs.Cmp.{IsTotalOrder, tied_itself}
+use Rattle.std.specs.Cmp.{tied_itself}
 use Rattle.std.specs.Cmp.Lexicographic.{slice_cmp, nat_list_cmp_total}
 use Rattle.std.specs.FinMap.{slice_cmp-IsAntisymmetric, nat_cmp-IsAntisymmetric}
 use Rattle.std.specs.List.{slice_get}
@@ -13,7 +13,7 @@ use Rattle.std.specs.declared.ops.Bound.TheVariants.{Excluded, Unbounded}
 use Rattle.std.proofs.lemmas.List.{append-nil}
 use Rattle.dired_text.specs.Paths.{Names, parent, path_cmp, rest_below}
 use Rattle.dired_text.proofs.PathLemmas.{path_cmp-total, rest_below-append, rest_below-some}
-use Rattle.tree_core.proofs.TreeLemmas.{LastOf, last_of, parent-push}
+use Rattle.tree_core.proofs.TreeLemmas.{last_of, parent-push}
 use Rattle.edit_words.specs.Place.{IsAbove}
 
 same_name : (x y : List ℕ) → slice_cmp nat_cmp x y ≡ Equal → x ≡ y

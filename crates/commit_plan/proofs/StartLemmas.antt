@@ -1,11 +1,10 @@
 -- What holds of the changes at first.
-use Rattle.std.proofs.Common.{◌≡◌, ◌⊎◌, inl, inr, ℕ, ◌<◌, ◌≤◌, true, false, List, [], length, get_or, nat_lt, refl, sym, ◌∙◌, ap, subst, arith, Contains, All, Some, Vec, Global}
+use Rattle.std.proofs.Common.{◌≡◌, inl, inr, ℕ, ◌<◌, List, [], length, get_or, nat_lt, refl, sym, ◌∙◌, ap, subst, arith, Contains, All, Some, Vec, Global}
 use Rattle.std.specs.List.{slice_get}
 use Rattle.std.proofs.lemmas.Bool.{cases_Bool, ltb-true, ltb-false}
 use Rattle.std.proofs.lemmas.Option.{get_or_from_slice_get, slice_get_within}
-use Rattle.dired_text.specs.Paths.{Names}
 use Rattle.edit_words.specs.declared.row.Row.{Row}
-use Rattle.edit_words.specs.WellFormed.{HasOtherSource, IsNoRoot, LinesRise, SourcesDiffer}
+use Rattle.edit_words.specs.WellFormed.{IsNoRoot, LinesRise, SourcesDiffer}
 use Rattle.commit_plan.specs.declared.board.Board.{Board}
 use Rattle.commit_plan.specs.declared.changes.Change.{Change}
 use Rattle.commit_plan.specs.Stands.{AreSpelled, LinesApart, first_changes}

@@ -1,19 +1,17 @@
 -- Who has a turn, after one change was looked at or left its place.
-use Rattle.std.proofs.Common.{◌≡◌, ◌⊎◌, inl, inr, ℕ, ◌<◌, Bool, true, false, List, [], ◌∷◌, ◌++◌, length, refl, sym, ◌∙◌, ap, subst, arith, Contains, Option, Some, None, Vec, Global}
+use Rattle.std.proofs.Common.{◌≡◌, ◌⊎◌, inl, inr, ℕ, ◌<◌, true, false, List, [], ◌∷◌, ◌++◌, length, sym, ◌∙◌, ap, subst, Contains, Some, Vec, Global}
 use Rattle.std.proofs.Math.ListN.{set}
 use Rattle.std.specs.List.{slice_get}
-use Rattle.std.proofs.lemmas.Option.{same_Some, slice_get_within}
 use Rattle.std.proofs.lemmas.List.Elements.{Contains-append_left, Contains-push}
 use Rattle.dired_text.specs.Paths.{Names}
 use Rattle.commit_steps.specs.declared.step.Step.{Step}
 use Rattle.edit_words.specs.declared.row.Row.{Row}
 use Rattle.plan_moves.specs.Waiting.{NoneReady}
 use Rattle.commit_plan.specs.declared.board.Board.{Board}
-use Rattle.commit_plan.specs.declared.changes.Stand.{Stand}
 use Rattle.commit_plan.specs.declared.changes.Stand.TheVariants.{Left, Waits}
 use Rattle.commit_plan.specs.declared.changes.Change.{Change}
 use Rattle.commit_plan.specs.Stands.{IsCarried, IsPutAway, change, is_ready_at, is_ready_in, waits_of}
-use Rattle.commit_plan.specs.Boards.{Blocks, BlocksAt, HasTurn, HaveTurns, IsNoted, IsReleased, Waiter}
+use Rattle.commit_plan.specs.Boards.{BlocksAt, HasTurn, HaveTurns, IsNoted, IsReleased, Waiter}
 use Rattle.commit_plan.specs.Boards.HasTurn.{left, one_of, queues, listed}
 use Rattle.commit_plan.proofs.ChangeLemmas.{contains_cases, contains_none}
 use Rattle.commit_plan.proofs.ReadyLemmas.{none_ready}

@@ -5,6 +5,7 @@ ghost use Rattle.edit_check.specs.StandFor.{changes_in, found_in};
 ghost use Rattle.edit_rules.specs.Plans.{ModeChange};
 ghost use Rattle.edit_words.specs.Edited.{asked_fresh};
 ghost use Rattle.edit_words.specs.Rows.{rows as rows_in};
+ghost use Rattle.commit_journal.specs.Spelling.{CanEncode};
 ghost use Rattle.commit_steps.specs.declared.step.Step.TheVariants.{MakeDir};
 ghost use Rattle.plan_moves.specs.Plan.{IsPlan, mode_step};
 ghost use Rattle.commit_plan.specs.Promises.{AreCounted, AreLeast, HasNames, LeadToEdited};
@@ -15,7 +16,7 @@ use crate::moves::moves;
 use crate::planned::Plan;
 use commit_steps::{Step, Steps};
 use dired_text::{Memory, Path};
-use edit_check::{Checked, changes_can_be_made_where_it_stands};
+use edit_check::{Checked, changes_can_be_made_where_it_stands, what_is_checked};
 use edit_words::{Row, rows_of};
 use std::alloc::Global;
 
@@ -23,7 +24,7 @@ use std::alloc::Global;
 /// In each tree that the check stands for they lead to the edited tree, whatever entries are made for the changes, and their number
 /// is one of that tree and the changes: what is replaced, what is given up, the directories that are made, the edits with new paths,
 /// the entries that are made, the modes that change, and the knots. Where edits only give entries of one directory other names, and
-/// replace nothing, no list of renames that does the same is shorter.
+/// replace nothing, no list of renames that does the same is shorter. A journal can spell them and takes them, whatever the tree told.
 ///
 /// # Errors
 /// Want of memory.
@@ -33,12 +34,15 @@ pub fn plan(alloc: Global, checked: &Checked) -> Result<Plan, Memory>
     ensures leads { IfOk result (λ p. LeadToEdited checked.now p.steps) }
     ensures count { IfOk result (λ p. AreCounted checked.now p.steps) }
     ensures least { IfOk result (λ p. AreLeast checked.now p.steps) }
+    ensures spelled { IfOk result (λ p. CanEncode p.steps) }
     ensures fresh { IfOk result (λ p. p.fresh.items ≡ asked_fresh (changes_in checked.now)) }
 {
     let changes = checked.changes();
     let rows = rows_of(alloc, changes)?;
-    // The promises for each tree stand on these: the changes can be made there, and the names of all paths are lawful.
+    // The promises stand on these: the changes can be made in each tree that the check stands for, what was found can stand in a
+    // tree, and the names of all paths are lawful.
     changes_can_be_made_where_it_stands(checked);
+    what_is_checked(checked);
     read_names(&rows);
     let mut steps = Vec::new(alloc);
     let held = held_paths(alloc, &rows, checked.victims())?;

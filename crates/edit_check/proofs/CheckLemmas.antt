@@ -1,6 +1,9 @@
 -- What a check hands on, by what was found.
-use Rattle.std.proofs.Common.{◌≡◌, ◌⊎◌, Bool, true, false, cond, List, [], ◌∷◌, Option, Some, None, refl, sym, ◌∙◌, ap, inl, inr, IfErr, Result, Ok, Err, IfOk, subst}
-use Rattle.std.specs.Option.{option_map, option_or}
+use Rattle.std.proofs.Common.{◌≡◌, ◌⊎◌, Bool, true, false, ◌||◌, cond, List, [], ◌∷◌, Option, Some, None, refl, sym, ◌∙◌, ap, inl, inr, is_some, IsTrue, IfErr, Result, Ok, Err, IfOk, subst}
+use Rattle.std.specs.BTreeMap.{get}
+use Rattle.std.specs.Option.{option_map, option_or, unwrap_or}
+use Rattle.std.proofs.lemmas.Bool.{false≢true}
+use Rattle.std.proofs.lemmas.Option.{none-some}
 use Rattle.tree_core.specs.declared.node.CallName.{CallName}
 use Rattle.tree_core.specs.declared.faults.Faults.{Faults}
 use Rattle.tree_core.specs.declared.changes.Confirmed.{Confirmed}
@@ -8,21 +11,45 @@ use Rattle.tree_core.specs.declared.meta.Meta.{Meta}
 use Rattle.tree_core.specs.FileTree.{FileTree, IsTree}
 use Rattle.tree_core.specs.History.{History}
 use Rattle.tree_core.specs.Looks.{OnlyLooked, failed_in, faults_with}
-use Rattle.dired_text.specs.Paths.{Names}
+use Rattle.dired_text.specs.Paths.{Names, path_cmp}
 use Rattle.edit_words.specs.declared.row.Row.{Row}
 use Rattle.edit_words.specs.declared.findings.Findings.{Findings}
 use Rattle.edit_words.specs.declared.fault.CheckFault.{CheckFault}
 use Rattle.edit_words.specs.declared.fault.CheckFault.TheVariants as fault
-use Rattle.edit_words.specs.Found.{sight_in, HasFindings, IsCovered, IsFreeOr, IsLookAt, failed_call}
+use Rattle.edit_words.specs.Found.{sight_in, HasFindings, HasLawfulMode, IsClosed, IsCovered, IsFreeOr, IsLookAt, IsSeen, failed_call}
+use Rattle.edit_words.specs.Place.{IsAbove}
 use Rattle.edit_check.specs.Checks.{IsAnswer}
 use Rattle.edit_looks.specs.Looks.{IsLookEnd}
+use Rattle.edit_words.specs.declared.seen.Seen.{Seen}
 use Rattle.edit_words.specs.declared.seen.Seen.TheVariants.{Dir}
-use Rattle.edit_words.specs.Sight.{Sight, sight_of}
+use Rattle.edit_words.specs.Sight.{Sight, is_dir, sight_of}
 use Rattle.edit_words.specs.Refusals.{first_fault, fault_if, refusal, parents, across, changed_bytes}
 use Rattle.edit_words.specs.Rows.{is_elsewhere}
 use Rattle.edit_words.specs.WellFormed.{CanBeMade}
 use Rattle.edit_check.proofs.SameSight.{refusal_seen}
 use Rattle.edit_words.proofs.WellFormedLemmas.{taken_alone}
+
+-- ---- What was found can stand in a tree.
+
+-- a directory was found at the root, if that was looked at
+root_dir : (f : Findings) → IsClosed f → IsSeen f [] → is_dir ((sight_in f).at []) ≡ true
+root_dir f closed seen = by_found (get path_cmp f.found []) refl seen
+  where
+    by_found : (o : Option (Option Seen)) → get path_cmp f.found [] ≡ o → IsTrue (is_some o || false) → is_dir ((sight_in f).at []) ≡ true
+    by_found None e is = absurd (false≢true is)
+    by_found (Some found) e is = ap (λ (o : Option (Option Seen)). is_dir (unwrap_or o None)) e ∙ closed.can.root found e
+
+-- and so it is where a path was looked at, and all above it
+pub root_found : (f : Findings) (w : Names) → IsClosed f → IsSeen f w → ((u : Names) → IsAbove u w → IsSeen f u) → is_dir ((sight_in f).at []) ≡ true
+root_found f [] closed seen above = root_dir f closed seen
+root_found f (name ∷ rest) closed seen above = root_dir f closed (above [] (name, rest, refl))
+
+pub modes_found : (f : Findings) → IsClosed f → (p : Names) → HasLawfulMode ((sight_in f).at p)
+modes_found f closed p = by_found (get path_cmp f.found p) refl
+  where
+    by_found : (o : Option (Option Seen)) → get path_cmp f.found p ≡ o → HasLawfulMode (unwrap_or o None)
+    by_found None e = λ mode no. absurd (none-some mode no)
+    by_found (Some found) e = closed.can.modes p found e
 
 -- ---- No fault of the changes names a call of the tree.
 

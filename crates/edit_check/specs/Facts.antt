@@ -14,7 +14,7 @@ use Rattle.tree_core.specs.declared.changes.Changes.{Changes}
 use Rattle.tree_core.specs.declared.changes.Changes.TheVariants.{Edits, Removals, Creations}
 use Rattle.edit_words.specs.declared.row.Row.{Row}
 use Rattle.edit_words.specs.declared.findings.Findings.{Findings}
-use Rattle.edit_words.specs.Found.{IsClosed, IsCovered}
+use Rattle.edit_words.specs.Found.{CanStand, IsClosed, IsCovered}
 use Rattle.edit_words.specs.WellFormed.{AreAsked, AreLawful, IsEdit, IsFreshIn}
 use Rattle.edit_words.specs.Sight.{Sight}
 use Rattle.edit_rules.specs.Plans.{AreMissing, AreModes, ModeChange}
@@ -27,8 +27,11 @@ IsTable-prop table = hlevel props
 pub IsCovered-prop : (f : Findings) (rs : List Row) → IsProp (IsCovered f rs)
 IsCovered-prop f rs = hlevel props
 
+CanStand-prop : (f : Findings) → IsProp (CanStand f)
+CanStand-prop f = hlevel props
+
 pub IsClosed-prop : (f : Findings) → IsProp (IsClosed f)
-IsClosed-prop f = hlevel props
+IsClosed-prop f = hlevel (props, CanStand-prop)
 
 pub AreMissing-prop : (sight : Sight) (rs : List Row) (ps : List Names) → IsProp (AreMissing sight rs ps)
 AreMissing-prop sight rs ps = hlevel (props, IsStrictlySortedBy-prop)

@@ -1,13 +1,14 @@
 -- The trees that a check stands for.
-use Rattle.std.specs.Prelude.{◌≡◌, true, List, None, is_some, IsTrue}
+use Rattle.std.specs.Prelude.{◌≡◌, true, List, [], Some, None, is_some, IsTrue, Contains}
 use Rattle.dired_text.specs.Paths.{Names}
 use Rattle.tree_core.specs.FileTree.{FileTree, IsTree}
 use Rattle.tree_core.specs.declared.changes.Changes.{Changes}
 use Rattle.tree_core.specs.declared.changes.Confirmed.{Confirmed}
 use Rattle.edit_check.specs.declared.checked.Checked.{Checked}
 use Rattle.edit_words.specs.declared.counts.Counts.{Counts}
+use Rattle.edit_words.specs.declared.row.Row.{Row}
 use Rattle.edit_words.specs.Counting.{counts_of}
-use Rattle.edit_words.specs.Found.{HasFindings, sight_in}
+use Rattle.edit_words.specs.Found.{HasFindings, HasLawfulMode, sight_in}
 use Rattle.edit_words.specs.Place.{IsAbove}
 use Rattle.edit_words.specs.Refusals.{refusal}
 use Rattle.edit_words.specs.Rows.{rows}
@@ -29,11 +30,13 @@ abbrev pub found_in : Checked → Sight
 found_in checked = sight_in checked.findings
 
 -- Whatever tree told it: the changes can be asked for, nothing is refused of what was found, and that is closed upwards: above what
--- was found to stand there are directories.
+-- was found to stand there are directories. One was found at the root, where there is a new path, and each mode is at most 0o7777.
 pub record IsChecked (checked : Checked) : Type 0 where
   pub asked : AreAsked (changes_in checked)
   pub taken : refusal (found_in checked) (confirmed_in checked) (rows (changes_in checked)) ≡ None
   pub above : (p u : Names) → IsTrue (is_some ((found_in checked).at p)) → IsAbove u p → is_dir ((found_in checked).at u) ≡ true
+  pub root : (r : Row) (w : Names) → Contains (rows (changes_in checked)) r → r.to ≡ Some w → is_dir ((found_in checked).at []) ≡ true
+  pub modes : (p : Names) → HasLawfulMode ((found_in checked).at p)
   pub counted : counts_in checked ≡ counts_of (found_in checked) (rows (changes_in checked))
 
 -- It stands for each tree that has its findings:

@@ -14,7 +14,8 @@ pub fn changes_can_be_made_where_it_stands(checked: &Checked)
 }
 
 /// What holds of a `Checked` whatever the tree told: its changes can be asked for, what was found refuses nothing of them and gives
-/// their counts, and above what was found to stand there are directories.
+/// their counts, above what was found to stand there are directories, a directory was found at the root where there is a new path,
+/// and no mode that was found is above 0o7777.
 pub fn what_is_checked(checked: &Checked)
     ensures { IsChecked checked.now }
 {

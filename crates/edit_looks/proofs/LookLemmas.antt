@@ -11,16 +11,18 @@ use Rattle.dired_text.proofs.PathLemmas.{parent-push}
 use Rattle.tree_core.specs.declared.node.Node.{Node}
 use Rattle.tree_core.specs.declared.node.Node.TheVariants.{Dir, Link, File}
 use Rattle.tree_core.specs.declared.node.Kind.{Kind}
+use Rattle.tree_core.specs.declared.node.Kind.TheVariants as kind
 use Rattle.tree_core.specs.declared.meta.Meta.{Meta}
-use Rattle.tree_core.specs.FileTree.{FileTree, IsEmptyAt, kind_of}
-use Rattle.tree_core.specs.Fields.{AreFields, Shows}
+use Rattle.tree_core.specs.FileTree.{FileTree, IsEmptyAt, IsMode, IsTree, kind_of}
+use Rattle.tree_core.specs.Fields.{AreFields, IsMeta, IsOfKind, Shows}
 use Rattle.edit_words.specs.declared.seen.Seen.{Seen}
 use Rattle.edit_words.specs.declared.findings.Findings.{Findings}
 use Rattle.edit_words.specs.Place.{IsAbove}
 use Rattle.edit_words.specs.Sight.{seen, sight_of, is_dir}
-use Rattle.edit_words.specs.Found.{sight_in, HasFindings, HasGrown, HasOneMore, IsClosed, IsLookedAt, IsSeen}
+use Rattle.edit_words.specs.Found.{HasLawfulMode, sight_in, HasFindings, HasGrown, HasOneMore, IsClosed, IsLookedAt, IsSeen}
 use Rattle.edit_looks.specs.Looks.{seen_by}
 use Rattle.edit_words.proofs.FindingsLemmas.{dir_stays, seen_below, seen_looked, some_is}
+use Rattle.edit_words.proofs.RefusalLemmas.{dir_decides}
 use Rattle.edit_words.proofs.WellFormedLemmas.{empty_decides}
 
 -- ---- the parent
@@ -172,6 +174,16 @@ none_listed f none q x e = none-some x (sym (none q) ∙ e)
 
 pub alone_closed : {f g : Findings} (p : Names) → length p ≡ 1 → ((q : Names) → get path_cmp f.found q ≡ None) → HasOneMore p None f g → IsClosed g
 alone_closed {f} {g} p one none more = record {
+  can = record {
+    root = λ x e. elim (more.found [] x e) [
+      | inl new ↦ let counted : 0 ≡ length p = ap (λ (l : Names). length l) new.0 in absurd (omega (arith, counted, one))
+      | inr old ↦ absurd (none_listed f none [] x old)
+    ];
+    modes = λ q x e. elim (more.found q x e) [
+      | inl new ↦ subst HasLawfulMode (sym new.1) (λ mode no. absurd (none-some mode no))
+      | inr old ↦ absurd (none_listed f none q x old)
+    ];
+  };
   above = λ q u x e long over. elim (more.found q x e) [
     | inl new ↦
         let no : (false || nat_lt 1 1) ≡ true = subst (λ (k : ℕ). (false || nat_lt 1 k) ≡ true) (ap length new.0 ∙ one) (subst (λ (y : Option Seen). IsTrue (is_some y || nat_lt 1 (length q))) new.1 long) in
@@ -182,6 +194,10 @@ alone_closed {f} {g} p one none more = record {
 
 pub closed_same : {f g : Findings} → g.found ≡ f.found → IsClosed f → IsClosed g
 closed_same {f} {g} same closed = record {
+  can = record {
+    root = λ x e. closed.can.root x (sym (ap (λ (m : BTreeMap Names (Option Seen)). get path_cmp m []) same) ∙ e);
+    modes = λ p x e. closed.can.modes p x (sym (ap (λ (m : BTreeMap Names (Option Seen)). get path_cmp m p) same) ∙ e);
+  };
   above = λ p u x e long over. ap (λ (m : BTreeMap Names (Option Seen)). is_dir (unwrap_or (get path_cmp m u) None)) same
       ∙ closed.above p u x (sym (ap (λ (m : BTreeMap Names (Option Seen)). get path_cmp m p) same) ∙ e) long over;
 }
@@ -201,6 +217,15 @@ seen_shown {t} {fields} p meta kind are is told = by_node (get_in t p) refl is
     by_node None at none = absurd (none-some kind (sym none))
     by_node (Some node) at some = ap (λ (s : Seen). Some s) (seen_node node meta (subst (Shows node) (sym told) (are.shows p node at)))
 
+-- lawful fields show a lawful mode
+pub lawful_shown : (meta : Meta) → IsMeta meta → HasLawfulMode (Some (seen_by meta.kind meta))
+lawful_shown meta is = by_kind meta.kind is.shape
+  where
+    by_kind : (k : Kind) → IsOfKind k meta.mode meta.target → HasLawfulMode (Some (seen_by k meta))
+    by_kind kind.File shape mode e = subst IsMode (same_Some meta.mode mode e) shape.0
+    by_kind kind.Dir shape mode e = subst IsMode (same_Some meta.mode mode e) shape.0
+    by_kind kind.Link shape mode e = absurd (none-some mode e)
+
 -- and they are of its kind
 pub kind_shown : {t : FileTree} {fields : Names → Meta} (p : Names) (meta : Meta) (kind : Kind) → AreFields t fields → Some kind ≡ option_map kind_of (get_in t p) → meta ≡ fields p → meta.kind ≡ kind
 kind_shown {t} {fields} p meta kind are is told = by_node (get_in t p) refl is
@@ -213,6 +238,10 @@ kind_shown {t} {fields} p meta kind are is told = by_node (get_in t p) refl is
 pub none_shown : (o : Option Node) → None ≡ option_map kind_of o → option_map seen o ≡ None
 none_shown None e = refl
 none_shown (Some node) e = absurd (none-some (kind_of node) e)
+
+-- a directory stands at the root of a tree
+pub root_shown : (t : FileTree) → IsTree t → is_dir (option_map seen (get_in t [])) ≡ true
+root_shown t tree = (dir_decides t []).1 tree.root
 
 -- ---- whether directories are empty
 

@@ -6,7 +6,7 @@ ghost use Rattle.tree_core.specs.History.{current_tree};
 ghost use Rattle.edit_looks.specs.declared.look.SeeEnd.TheVariants as end;
 ghost use Rattle.edit_words.specs.Sight.{seen};
 ghost use Rattle.tree_core.specs.Looks.{OnlyLooked, failed_in, faults_with};
-ghost use Rattle.edit_words.specs.Found.{IsLookAt};
+ghost use Rattle.edit_words.specs.Found.{HasLawfulMode, IsLookAt};
 ghost use Rattle.edit_looks.specs.Looks.{seen_by, failed_look, contradicts};
 
 use dired_text::{Failed, Memory, Path};
@@ -19,7 +19,8 @@ use tree_core::{CallName, Kind, LookEnd, Meta, Tree};
 pub enum SeeEnd {
     /// This call of the tree failed.
     Failed(CallName),
-    /// Two looks showed different kinds, so the tree has changed between them.
+    /// What was seen can't stand in one tree: two looks showed different kinds, so that it has changed between them, or no directory
+    /// was seen at the root.
     Contradicts,
     /// An allocation was refused.
     Memory,
@@ -39,6 +40,7 @@ impl From<Memory> for SeeEnd {
 /// `Contradicts` never where the tree tells what it contains.
 pub fn look<T: Tree>(alloc: Global, tree: &mut T, path: &Path) -> Result<Option<Seen>, SeeEnd>
     ensures found { T.Tells → IfOk result (λ found. found ≡ option_map seen (get (current_tree (T.history tree.old)) path.now)) }
+    ensures lawful { IfOk result HasLawfulMode }
     ensures agrees { T.Tells → IfErr result (λ e. contradicts e ≡ false) }
     ensures looked { T.Tells → OnlyLooked (failed_in failed_look result)
         (T.history tree.old) (T.history tree.new) (T.fields tree.old) (T.fields tree.new)

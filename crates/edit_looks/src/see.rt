@@ -112,6 +112,9 @@ fn see_here<T: Tree>(
     }
     let found = look(alloc, tree, path)?;
     let dir = is_dir(&found);
+    if path.names().is_empty() && !dir {
+        return Err(SeeEnd::Contradicts);
+    }
     findings.note(path, found)?;
     Ok(dir)
 }

@@ -17,7 +17,7 @@ use Rattle.edit_words.specs.declared.seen.Seen.{Seen}
 use Rattle.edit_words.specs.declared.findings.Findings.{Findings}
 use Rattle.edit_words.specs.Sight.{Sight, sight_of, is_dir}
 use Rattle.edit_words.specs.Place.{IsAbove, ancestors}
-use Rattle.edit_words.specs.Found.{sight_in, HasFindings, IsSeen, IsClosed, is_no_dir, HasGrown, HasOneMore}
+use Rattle.edit_words.specs.Found.{HasLawfulMode, sight_in, HasFindings, IsSeen, IsClosed, is_no_dir, HasGrown, HasOneMore}
 use Rattle.edit_words.proofs.AboveLemmas.{ancestors_above}
 use Rattle.edit_words.proofs.FindLemmas.{contains_head, contains_tail, contains_none, contains_cases}
 use Rattle.edit_words.proofs.RefusalLemmas.{stands_decides, dir_decides}
@@ -148,8 +148,19 @@ dir_stays {f} {g} p grown is = by_found (get path_cmp f.found p) refl
     by_found (Some found) e = ap is_dir (found_here g p found (grown.found p found e) ∙ sym (found_here f p found e)) ∙ is
 
 pub closed_more : {f g : Findings} (p : Names) (o : Option Seen) → IsClosed f → HasGrown f g → HasOneMore p o f g
-    → ((u : Names) → IsAbove u p → is_dir ((sight_in f).at u) ≡ true) → IsClosed g
-closed_more {f} {g} p o closed grown more above = record {
+    → ((u : Names) → IsAbove u p → is_dir ((sight_in f).at u) ≡ true)
+    → (p ≡ [] → is_dir o ≡ true) → HasLawfulMode o → IsClosed g
+closed_more {f} {g} p o closed grown more above root lawful = record {
+  can = record {
+    root = λ x e. elim (more.found [] x e) [
+      | inl new ↦ ap is_dir new.1 ∙ root (sym new.0)
+      | inr old ↦ closed.can.root x old
+    ];
+    modes = λ q x e. elim (more.found q x e) [
+      | inl new ↦ subst HasLawfulMode (sym new.1) lawful
+      | inr old ↦ closed.can.modes q x old
+    ];
+  };
   above = λ q u x e long over. elim (more.found q x e) [
     | inl new ↦ dir_stays u grown (above u (subst (IsAbove u) new.0 over))
     | inr old ↦ dir_stays u grown (closed.above q u x old long over)

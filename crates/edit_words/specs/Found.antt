@@ -1,13 +1,15 @@
 -- What looks have found, and what that says of a tree.
-use Rattle.std.specs.Prelude.{◌≡◌, ◌⊎◌, Bool, true, false, not, ◌||◌, nat_lt, length, List, Option, Some, None, is_some, IsTrue, Contains}
+use Rattle.std.specs.Prelude.{◌≡◌, ◌⊎◌, ℕ, Bool, true, false, not, ◌||◌, nat_lt, length, List, [], Option, Some, None, is_some, IsTrue, Contains}
 use Rattle.std.specs.List.{list_any}
 use Rattle.std.specs.Option.{unwrap_or}
 use Rattle.std.specs.BTreeMap.{get}
 use Rattle.dired_text.specs.Paths.{Names, path_cmp}
 use Rattle.tree_core.specs.declared.node.CallName.{CallName}
 use Rattle.tree_core.specs.declared.node.CallName.TheVariants as call
+use Rattle.tree_core.specs.FileTree.{IsMode}
 use Rattle.edit_words.specs.declared.row.Row.{Row}
 use Rattle.edit_words.specs.declared.seen.Seen.{Seen}
+use Rattle.edit_words.specs.declared.seen.Seen.TheVariants.{Dir, Link, File}
 use Rattle.edit_words.specs.declared.findings.Findings.{Findings}
 use Rattle.edit_words.specs.declared.fault.CheckFault.{CheckFault}
 use Rattle.edit_words.specs.declared.fault.CheckFault.TheVariants.{Pending, Stale, Reserved, TwoToOne, ModeClash, ParentNotDirectory, MovedParent, ParentTaken, PathTooLong, TargetIsDirectory, NotEmpty, Unconfirmed, PathBytes, TreeFault, Memory}
@@ -37,9 +39,26 @@ is_no_dir (Some found) = not (is_dir found)
 abbrev pub IsSeen : Findings → Names → Type 0
 IsSeen f p = IsTrue (is_some (get path_cmp f.found p) || list_any (λ u. is_no_dir (get path_cmp f.found u)) (ancestors p))
 
--- What was found is closed upwards: above what was found to stand there are directories. So there are above a path of several names
--- at which nothing was found; the staging directory alone is looked at before the root.
+-- the mode of what is seen; a link has none
+abbrev pub seen_mode : Option Seen → Option ℕ
+seen_mode None = None
+seen_mode (Some (Dir mode)) = Some mode
+seen_mode (Some (Link target)) = None
+seen_mode (Some (File number mode)) = Some mode
+
+-- where there is one, it is at most 0o7777
+abbrev pub HasLawfulMode : Option Seen → Type 0
+HasLawfulMode found = (mode : ℕ) → seen_mode found ≡ Some mode → IsMode mode
+
+-- What was found can stand in a tree: at the root nothing but a directory was found, and each mode is at most 0o7777.
+pub record CanStand (f : Findings) : Type 0 where
+  pub root : (found : Option Seen) → get path_cmp f.found [] ≡ Some found → is_dir found ≡ true
+  pub modes : (p : Names) (found : Option Seen) → get path_cmp f.found p ≡ Some found → HasLawfulMode found
+
+-- What was found can stand in a tree and is closed upwards: above what was found to stand there are directories. So there are above a
+-- path of several names at which nothing was found; the staging directory alone is looked at before the root.
 pub record IsClosed (f : Findings) : Type 0 where
+  pub can : CanStand f
   pub above : (p u : Names) (found : Option Seen) → get path_cmp f.found p ≡ Some found → IsTrue (is_some found || nat_lt 1 (length p)) → IsAbove u p → is_dir ((sight_in f).at u) ≡ true
 
 -- What stands at each path that a check of these rows asks for is known: the staging directory, sources, new paths, what is above

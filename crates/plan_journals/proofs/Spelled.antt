@@ -11,7 +11,7 @@ use Rattle.edit_words.specs.declared.row.Row.{Row}
 use Rattle.edit_words.specs.Rows.{rows}
 use Rattle.edit_words.specs.Sight.{Sight}
 use Rattle.plan_moves.specs.Plan.{IsPlan, held_paths, holds, mode_step}
-use Rattle.plan_journals.specs.Laws.{IsTold}
+use Rattle.plan_journals.proofs.Told.{IsTold, told}
 use Rattle.plan_journals.proofs.Fits.{fits}
 use Rattle.plan_journals.proofs.PlanCosts.{few_held}
 use Rattle.plan_journals.proofs.Taken.{AreTaken, are_taken}
@@ -32,9 +32,8 @@ steps_spelled sight rs steps set told plan =
     (all-append IsLawfulStep (map MakeDir plan.dirs) (plan.moves ++ map mode_step plan.modes) made
     (all-append IsLawfulStep plan.moves (map mode_step plan.modes) moved changed)))
 
-pub spelled : (checked : Checked) (steps : List Step) → IsChecked checked → IsTold (found_in checked) (rows (changes_in checked))
-    → IsPlan (found_in checked) (rows (changes_in checked)) steps → CanEncode steps
-spelled checked steps is told plan =
+pub spelled : (checked : Checked) (steps : List Step) → IsChecked checked → IsPlan (found_in checked) (rows (changes_in checked)) steps → CanEncode steps
+spelled checked steps is plan =
     let set = are_taken (found_in checked) (confirmed_in checked) (changes_in checked) is.asked is.taken is.above in
     let fit = fits (found_in checked) (confirmed_in checked) (changes_in checked) steps is.asked is.taken plan in
-    record { lawful = steps_spelled (found_in checked) (rows (changes_in checked)) steps set told plan; few = fit.few; within = fit.within }
+    record { lawful = steps_spelled (found_in checked) (rows (changes_in checked)) steps set (told checked is set) plan; few = fit.few; within = fit.within }

@@ -19,7 +19,7 @@ use Rattle.edit_laws.proofs.RowLemmas.{far_to, written-to}
 use Rattle.edit_rules.specs.Plans.{AreMissing, AreModes, ModeChange, mode_change_of, mode_changes}
 use Rattle.plan_moves.specs.Plan.{held_by, held_paths, holds, is_given_up, listed, mode_step}
 use Rattle.plan_ends.proofs.ModeCounts.{map_parts_some, listed_too, as_long, comes_from}
-use Rattle.plan_journals.specs.Laws.{IsTold}
+use Rattle.plan_journals.proofs.Told.{IsTold}
 use Rattle.plan_journals.proofs.PlanCosts.{missing_within}
 use Rattle.plan_journals.proofs.Taken.{AreTaken}
 use Rattle.plan_journals.proofs.StepPaths.{held_entry, put_in, outside_above, all_listed, place_outside}

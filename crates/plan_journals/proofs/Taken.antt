@@ -25,6 +25,7 @@ use Rattle.edit_words.specs.declared.fault.CheckFault.TheVariants.{Stale, Target
 use Rattle.edit_words.specs.Place.{IsAbove}
 use Rattle.edit_words.specs.Refusals.{staging as reserved_path, fault_if, first_fault, is_dir_shown, is_link_shown, is_as_shown, is_stale_at, stale, reserved, two_to_one, mode_clash, parents, parent_not_directory, moved_parent, parent_taken, path_too_long, across, victim_at, victim_of, if_dir, directory_replaced, refusal}
 use Rattle.edit_words.specs.Rows.{rows, edit_row, removal_row, creation_row, written, is_elsewhere, is_source}
+use Rattle.edit_words.specs.Found.{seen_mode}
 use Rattle.edit_words.specs.Sight.{Sight, is_dir}
 use Rattle.edit_words.specs.WellFormed.{AreAsked, IsEdit, IsMover, IsNoRoot, LinesRise, max_changes}
 use Rattle.edit_words.proofs.FindLemmas.{or_none, map_none, then_none, unless_none, fault_none}
@@ -33,7 +34,6 @@ use Rattle.edit_laws.proofs.ListLemmas.{map_parts, ordered, one, before, after}
 use Rattle.edit_laws.proofs.PlacedIsTree.{some_of}
 use Rattle.plan_laws.proofs.MovesLead.{outside_path}
 use Rattle.plan_laws.proofs.StagedNames.{one_staging}
-use Rattle.plan_journals.specs.Laws.{seen_mode}
 
 -- a change of a mode that is asked for
 pub record NewMode (sight : Sight) (s : Names) (old new : ℕ) : Type 0 where

@@ -1,20 +1,16 @@
 -- Laws: the steps of a plan fit a journal, and a journal can spell them.
-use Rattle.std.specs.Prelude.{◌≡◌, ℕ, ◌+◌, ◌*◌, ◌≤◌, ◌<◌, ◌^◌, List, [], length, Option, Some, None, is_some, IsTrue, Contains}
-use Rattle.dired_text.specs.Paths.{Names}
+use Rattle.std.specs.Prelude.{◌≡◌, ℕ, ◌+◌, ◌*◌, ◌≤◌, ◌<◌, ◌^◌, List, length, None}
 use Rattle.tree_core.specs.declared.changes.Changes.{Changes}
 use Rattle.tree_core.specs.declared.changes.Confirmed.{Confirmed}
-use Rattle.tree_core.specs.FileTree.{FileTree, IsTree}
 use Rattle.edit_check.specs.declared.checked.Checked.{Checked}
-use Rattle.edit_check.specs.StandFor.{IsChecked, StandsFor, changes_in, found_in}
+use Rattle.edit_check.specs.StandFor.{IsChecked, changes_in, found_in}
 use Rattle.edit_words.specs.declared.row.Row.{Row}
-use Rattle.edit_words.specs.declared.seen.Seen.{Seen}
-use Rattle.edit_words.specs.declared.seen.Seen.TheVariants.{Dir, Link, File}
 use Rattle.edit_words.specs.Refusals.{changed_bytes, refusal}
 use Rattle.edit_words.specs.Rows.{rows}
 use Rattle.edit_words.specs.Sight.{Sight}
 use Rattle.edit_words.specs.WellFormed.{AreAsked}
 use Rattle.commit_steps.specs.declared.step.Step.{Step}
-use Rattle.commit_steps.specs.Steps.{IsModeBits, all_bytes}
+use Rattle.commit_steps.specs.Steps.{all_bytes}
 use Rattle.commit_journal.specs.declared.version.Version.TheVariants.{Two}
 use Rattle.commit_journal.specs.Grammar.{max_all_bytes}
 use Rattle.commit_journal.specs.Spelling.{CanEncode, journal_text}
@@ -38,24 +34,7 @@ PlansFitAJournal =
     (sight : Sight) (confirmed : Confirmed) (changes : Changes) (steps : List Step) → AreAsked changes → refusal sight confirmed (rows changes) ≡ None
     → IsPlan sight (rows changes) steps → FitsAJournal sight (rows changes) steps
 
--- the mode of what is seen; a link has none
-abbrev pub seen_mode : Option Seen → Option ℕ
-seen_mode None = None
-seen_mode (Some (Dir mode)) = Some mode
-seen_mode (Some (Link target)) = None
-seen_mode (Some (File number mode)) = Some mode
-
--- What every tree tells where something is changed: something stands at the root, and modes have at most the bits 0o7777.
-pub record IsTold (sight : Sight) (rs : List Row) : Type 0 where
-  pub root : (r : Row) → Contains rs r → IsTrue (is_some (sight.at []))
-  pub modes : (p : Names) (mode : ℕ) → seen_mode (sight.at p) ≡ Some mode → IsModeBits mode
-
--- a journal can spell each step of each plan of checked changes, and takes all of them, whatever else the tree told
+-- a journal can spell each step of each plan of checked changes, and takes all of them, whatever the tree told
 abbrev pub PlansCanBeSpelled : Type 0
 PlansCanBeSpelled =
-    (checked : Checked) (steps : List Step) → IsChecked checked → IsTold (found_in checked) (rows (changes_in checked))
-    → IsPlan (found_in checked) (rows (changes_in checked)) steps → CanEncode steps
-
--- so in each tree that a check stands for
-abbrev pub TreesTell : Type 0
-TreesTell = (checked : Checked) (t : FileTree) → IsChecked checked → IsTree t → StandsFor checked t → IsTold (found_in checked) (rows (changes_in checked))
+    (checked : Checked) (steps : List Step) → IsChecked checked → IsPlan (found_in checked) (rows (changes_in checked)) steps → CanEncode steps

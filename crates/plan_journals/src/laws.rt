@@ -1,5 +1,5 @@
 // Laws over the definitions alone.
-ghost use Rattle.plan_journals.specs.Laws.{PlansCanBeSpelled, PlansFitAJournal, TreesTell};
+ghost use Rattle.plan_journals.specs.Laws.{PlansCanBeSpelled, PlansFitAJournal};
 
 /// The paths of a plan's steps have at most twice as many bytes as the paths of its changes, and 104 more for each change. Of changes
 /// that aren't refused they are at most 268,435,456, the steps are fewer than 2^32, and their journal has at most 1,073,741,824 bytes.
@@ -8,13 +8,7 @@ pub fn plans_fit_a_journal()
 {}
 
 /// A journal can spell each step of every plan of checked changes, and takes all of them: each step is lawful, they are fewer than
-/// 2^32, and their paths have at most 268,435,456 bytes together. That holds whatever the tree told, if only something stood at the
-/// root and modes had at most the bits 0o7777.
+/// 2^32, and their paths have at most 268,435,456 bytes together. That holds whatever the tree told.
 pub fn plans_can_be_spelled()
     ensures { PlansCanBeSpelled }
-{}
-
-/// Every tree that a check stands for told so.
-pub fn trees_tell()
-    ensures { TreesTell }
 {}

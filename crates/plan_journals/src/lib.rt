@@ -3,4 +3,4 @@
 
 mod laws;
 
-pub use laws::{plans_can_be_spelled, plans_fit_a_journal, trees_tell};
+pub use laws::{plans_can_be_spelled, plans_fit_a_journal};

@@ -1,4 +1,4 @@
-use Rattle.std.proofs.Common.{◌≡◌, ◌++◌, ◌∷◌, ◌<◌, ◌+◌, ℕ, [], Contains, List, arith, rules, sym, subst}
+use Rattle.std.proofs.Common.{◌≡◌, ◌++◌, ◌∷◌, ◌+◌, ℕ, [], List, arith, rules, sym, subst}
 use Rattle.commit_plan.proofs.ListLemmas.{AreBelow, one_below}
 use Rattle.commit_plan.proofs.board.numbers.Goals as goal
 

@@ -1,4 +1,4 @@
-use Rattle.std.proofs.Common.{◌≡◌, [], Some, true, false, is_some, rules}
+use Rattle.std.proofs.Common.{◌≡◌, [], true, false, is_some, rules}
 use Rattle.dired_text.specs.Paths.{rest_below}
 use Rattle.commit_plan.proofs.PathOrder.{below_from, first_is, first_not_below, none_behind}
 use Rattle.commit_plan.proofs.keepers.keeper_below.Goals as goal

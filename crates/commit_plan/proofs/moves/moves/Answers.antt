@@ -1,11 +1,9 @@
-use Rattle.std.proofs.Common.{◌≡◌, ◌+◌, ◌<◌, ◌≤◌, ◌++◌, ◌∷◌, [], List, ℕ, Option, Some, None, IfNone, IfSome, Vec, Global, ap, sym, subst, ◌∙◌, arith, rules, length, drop, get_or}
+use Rattle.std.proofs.Common.{◌≡◌, ◌+◌, ◌<◌, ◌≤◌, ◌++◌, ◌∷◌, [], List, ℕ, Option, IfNone, IfSome, Vec, Global, ap, sym, subst, ◌∙◌, arith, rules, length, drop}
 use Rattle.std.specs.List.{filter_map}
 use Rattle.std.specs.List.Sorted.{IsPermutation, IsSorted}
 use Rattle.dired_text.specs.Paths.{Names}
 use Rattle.commit_steps.specs.declared.step.Step.{Step}
 use Rattle.edit_words.specs.declared.row.Row.{Row}
-use Rattle.plan_moves.specs.Waiting.{NoneReady}
-use Rattle.commit_plan.specs.Stands.{waits_of}
 use Rattle.commit_plan.specs.Boards.{IsAtSource, NoneAtSource, deeper_cmp, source_of}
 use Rattle.commit_plan.proofs.TurnLemmas.{none_is_ready}
 use Rattle.commit_plan.proofs.WayLemmas.{IsUnderWay, from_one, none_left, rest_behind, way_away, way_done, way_first, way_run, way_same, way_skip}

@@ -13,6 +13,7 @@ use Rattle.commit_plan.specs.Holding.{held_from}
 use Rattle.commit_plan.specs.Promises.{HasNames}
 use Rattle.commit_plan.proofs.HoldLemmas.{few_held, held_are, steps_are}
 use Rattle.commit_plan.proofs.PlanLemmas.{counted, have_names, leads, least}
+use Rattle.plan_journals.proofs.Spelled.{spelled}
 use Rattle.commit_plan.proofs.planning.plan.Goals as goal
 
 pub add_holds-requires : goal.add_holds-requires
@@ -75,3 +76,6 @@ returns-clause-least c =
     let checked = c.args.checked.now in
     let can = c.changes_can_be_made_where_it_stands.ensures in
     least checked can.made can.listed (subst AreAsked c.changes-changes.ensures.changes c.changes-changes.ensures.asked) c.from_vec.result (returns-clause-plan c)
+
+pub returns-clause-spelled : goal.returns-clause-spelled
+returns-clause-spelled c = spelled c.args.checked.now c.from_vec.result c.what_is_checked.ensures (returns-clause-plan c)

@@ -1,4 +1,4 @@
-use Rattle.std.proofs.Common.{◌≡◌, ◌<◌, ℕ, List, [], All, Contains, Vec, Global, length, sym, subst, ◌∙◌, rules}
+use Rattle.std.proofs.Common.{◌≡◌, ◌<◌, ℕ, List, Contains, length, sym, subst, ◌∙◌, rules}
 use Rattle.commit_plan.specs.declared.changes.Change.{Change}
 use Rattle.commit_plan.specs.Stands.{first_changes}
 use Rattle.commit_plan.specs.Boards.{HasKeepers, HasOwnSources}

@@ -1,10 +1,10 @@
-use Rattle.std.proofs.Common.{◌≡◌, ◌<◌, ◌∷◌, ℕ, List, Some, length, arith, refl, sym, ◌∙◌, subst, rules}
+use Rattle.std.proofs.Common.{◌≡◌, List, Some, arith, refl, sym, subst}
 use Rattle.std.proofs.lemmas.Option.{slice_get_within}
 use Rattle.std.specs.List.{slice_get}
 use Rattle.edit_words.specs.declared.row.Row.{Row}
 use Rattle.commit_plan.specs.declared.changes.Change.{Change}
 use Rattle.commit_plan.specs.declared.changes.Stand.TheVariants.{Left}
-use Rattle.commit_plan.specs.Stands.{change, is_ready_at}
+use Rattle.commit_plan.specs.Stands.{change}
 use Rattle.commit_plan.specs.Boards.{BlocksAt, HasKeepers}
 use Rattle.commit_plan.proofs.RunLemmas.{sound_carried, sound_noted}
 use Rattle.commit_plan.proofs.TurnLemmas.{turns_carried_out, turns_done, turns_noted}

@@ -1,4 +1,4 @@
-use Rattle.std.proofs.Common.{List, sym, subst, rules}
+use Rattle.std.proofs.Common.{List, sym, subst}
 use Rattle.commit_plan.specs.declared.changes.Change.{Change}
 use Rattle.commit_plan.specs.Boards.{HasKeepers, NoneAtSource}
 use Rattle.std.specs.Prelude.{IfNone}
