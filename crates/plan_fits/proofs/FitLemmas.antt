@@ -8,7 +8,8 @@ use Rattle.commit_steps.specs.declared.step.Step.{Step}
 use Rattle.commit_steps.specs.declared.step.Step.TheVariants.{MakeDir}
 use Rattle.commit_steps.specs.Staging.{staged, held}
 use Rattle.commit_states.specs.Calls.{AreLawfulFresh, Cleans, held_items}
-use Rattle.commit_states.specs.Fits.{Fits, IsWritten}
+use Rattle.commit_states.specs.Fits.{Fits}
+use Rattle.commit_states.specs.Interrupted.{IsWritten}
 use Rattle.commit_states.specs.Reads.{AreRead}
 use Rattle.commit_states.proofs.ReadLemmas.{held_suffice}
 use Rattle.tree_core.specs.declared.changes.Changes.{Changes}

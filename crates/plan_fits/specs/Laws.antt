@@ -6,7 +6,8 @@ use Rattle.std.specs.Str.{is_utf8}
 use Rattle.dired_text.specs.Paths.{Names}
 use Rattle.commit_steps.specs.declared.step.Step.{Step}
 use Rattle.commit_states.specs.Calls.{fresh_nodes}
-use Rattle.commit_states.specs.Fits.{Fits, IsWritten}
+use Rattle.commit_states.specs.Fits.{Fits}
+use Rattle.commit_states.specs.Interrupted.{IsWritten}
 use Rattle.edit_words.specs.Edited.{asked_fresh, edited}
 use Rattle.edit_words.specs.Rows.{rows}
 use Rattle.edit_words.specs.Sight.{sight_of}
