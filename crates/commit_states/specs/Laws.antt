@@ -12,13 +12,14 @@ use Rattle.commit_steps.specs.declared.step.Step.{Step}
 use Rattle.commit_steps.specs.declared.step.Step.TheVariants.{MakeDir}
 use Rattle.commit_journal.specs.declared.version.Version.TheVariants.{Two}
 use Rattle.commit_journal.specs.Spelling.{journal_text}
-use Rattle.commit_steps.specs.Staging.{staging, staged, at_marker, sealed, undone}
+use Rattle.commit_steps.specs.Staging.{staging, staged, at_marker, plan, sealed, undone}
 use Rattle.step_trees.specs.Groups.{groups, joined}
 use Rattle.step_trees.specs.Leads.{start, at_place, Leads}
 use Rattle.commit_states.specs.declared.held.Held.{Held}
 use Rattle.commit_states.specs.Interrupted.{IsWritten, JournalKind, IsOfKind, IsInterruptedBy, IsInterrupted, ending, GoesForward}
-use Rattle.commit_states.specs.Calls.{fresh_nodes, commit_calls, staging_calls, group_calls, calls_from, resume_calls, seal_calls, cleaning_calls, Cleans, turn_calls, home_calls, end_calls, fresh_items, CleansItems, unstage_calls, Unstages, Items, ClearsItems, close_calls}
-use Rattle.commit_states.specs.Places.{InStaging, AmongGroups, SealOrBehind}
+use Rattle.commit_states.specs.Calls.{fresh_nodes, commit_calls, staging_calls, group_calls, calls_from, resume_calls, seal_calls, cleaning_calls, Cleans, turn_calls, home_calls, end_calls, fresh_items, early_items, CleansItems, unstage_calls, Unstages, Items, ClearsItems, close_calls}
+use Rattle.commit_states.specs.Places.{HasNoJournal, InStaging, AmongGroups, SealOrBehind}
+use Rattle.commit_states.specs.Reads.{IsAllNamed}
 use Rattle.commit_states.specs.Fits.{Fits, edited_by}
 use Rattle.commit_states.specs.Stops.{Unplanned, Halted, Turned, TurnsRound, still_left, already_done, to_undo, to_undo_behind, BehindSeal, AllUndone}
 
@@ -136,6 +137,20 @@ FailedSealsTellPlaces =
     → (last : History) (before : FileTree) (first : CallName)
     → FailedIn (seal_calls ++ cleaning_calls hs (length steps)) (stepped_history steps fs journal o) last before first
     → SealOrBehind steps new first before
+
+-- Where a call of the staging failed and `plan` doesn't stand, all that stands in the staging directory has an early name.
+abbrev pub FailedStagingsName : Type 0
+FailedStagingsName =
+    (steps : List Step) (fs : List Fresh) (journal : List ℕ) (hs : List Held) (new : FileTree) (o : History) → IsDurable o → IsSound o
+    → Fits steps fs journal hs new (current_tree o) (next_number o)
+    → (last : History) (before : FileTree) (first : CallName) → FailedIn (staging_calls fs journal) (Then o call.Sync) last before first
+    → IsAbsent (current_tree last) (staged plan) → IsAllNamed (early_items fs) (current_tree last)
+
+-- One look tells: `plan` doesn't stand, nor `done` and `undone`, where no journal has its name yet. In a `Halted` tree it stands.
+abbrev pub UnplannedShowNoJournal : Type 0
+UnplannedShowNoJournal =
+    (kind : JournalKind) (steps : List Step) (old new : FileTree) (fresh : List Node) (target : FileTree) (began now : History)
+    → Unplanned (IsOfKind kind steps) steps old new fresh target began now → HasNoJournal (current_tree now)
 
 -- ---- other journals
 
