@@ -21,12 +21,12 @@ use Rattle.step_trees.specs.Leads.{start, Leads}
 use Rattle.step_trees.proofs.LeadLemmas.{Led, led}
 use Rattle.step_trees.proofs.PlaceLemmas.{Remains, all_remain}
 use Rattle.commit_states.specs.declared.held.Held.{Held}
-use Rattle.commit_states.specs.Interrupted.{StandsAs, IsWritten, AreJournals, IsInterruptedBy, nothing_staged, no_journal, GoesForward}
+use Rattle.commit_states.specs.Interrupted.{StandsAs, IsWritten, AreJournals, IsInterruptedBy, nothing_staged, no_journal, GoesForward, ReadsNew}
 use Rattle.commit_states.specs.Calls.{fresh_nodes, early_items, commit_calls, staging_calls, unstage_calls, Unstages, Items, ClearsItems, close_calls, group_calls, calls_from, resume_calls, seal_calls, cleaning_calls, Cleans, turn_calls, home_calls, end_calls, fresh_items, CleansItems}
 use Rattle.commit_states.specs.Fits.{Fits}
 use Rattle.commit_states.specs.Reads.{IsAllNamed}
 use Rattle.commit_states.specs.Stops.{IsStaging, Unplanned, Halted, Turned, TurnsRound, BehindSeal, AllUndone}
-use Rattle.commit_states.specs.Laws.{LeadsSafely, staged_history, stepped_history}
+use Rattle.commit_states.specs.Laws.{LeadsSafely, staged_history, stepped_history, sealed_history}
 use Rattle.commit_states.proofs.CommitLemmas.{safe_commit, done_commit, leads, ready1, gone}
 use Rattle.commit_states.proofs.HaltLemmas.{halted, halted_in, split_failed}
 use Rattle.commit_states.proofs.FinishLemmas.{seal_halted, sealed_stands, before_end}
@@ -37,7 +37,7 @@ use Rattle.commit_states.proofs.TextLemmas.{written_are}
 use Rattle.commit_states.specs.Places.{InStaging, AmongGroups, AtSeal, SealOrBehind}
 use Rattle.commit_states.proofs.ResumeLemmas.{safe_forward, done_forward}
 use Rattle.commit_states.proofs.ReturnLemmas.{safe_back, done_back, at_turn, safe_back_at, done_back_at}
-use Rattle.commit_states.proofs.UncleanLemmas.{unclean}
+use Rattle.commit_states.proofs.UncleanLemmas.{unclean, unclean_reads, sealed_reads}
 use Rattle.commit_states.proofs.StageLemmas.{failed_staging, staging_place, staging_names_left}
 use Rattle.commit_states.proofs.UnstageLemmas.{safe_unstage, done_unstage}
 use Rattle.step_trees.specs.Entries.{IsHeld}
@@ -82,6 +82,16 @@ module _ (steps : List Step) (fs : List Fresh) (journal : List ℕ) (hs : List H
       → (c : FileTree) → IsCrashState last c → GoesForward (IsWritten steps) steps (current_tree o) new nodes c
   seals_go_forward last before first failed c left = unclean (IsWritten steps) steps (current_tree o) new nodes lead hs fits.cleans o (stepped_history steps fs journal o)
       (gone steps fs journal hs new o durable sound fits).ready last before first failed c left
+
+  pub uncleans_read : (last : History) (before : FileTree) (first : CallName) → FailedIn (call.Sync ∷ cleaning_calls hs (length steps)) (sealed_history steps fs journal o) last before first
+      → ReadsNew (IsWritten steps) steps (current_tree o) new nodes (current_tree last)
+  uncleans_read last before first failed = unclean_reads (IsWritten steps) steps (current_tree o) new nodes lead hs fits.cleans o (stepped_history steps fs journal o)
+      (gone steps fs journal hs new o durable sound fits).ready last before first failed
+
+  pub seals_read : (last : History) (before : FileTree) (first : CallName) → FailedIn seal_calls (stepped_history steps fs journal o) last before first → Stands (current_tree last) (staged sealed)
+      → ReadsNew (IsWritten steps) steps (current_tree o) new nodes (current_tree last)
+  seals_read last before first failed stands = sealed_reads (IsWritten steps) steps (current_tree o) new nodes lead hs fits.cleans o (stepped_history steps fs journal o)
+      (gone steps fs journal hs new o durable sound fits).ready last before first failed stands
 
   pub groups_halt : (front behind : List (List Step)) (g : List Step) → groups steps ≡ front ++ g ∷ behind → (k : ℕ) → k ≡ length (joined front)
       → (last : History) (before : FileTree) (first : CallName) → FailedIn (group_calls k g) (then_all (staged_history fs journal o) (calls_from 0 front)) last before first

@@ -16,8 +16,10 @@ ghost use Rattle.commit_states.specs.Laws.{
   HaltsShowNoSeal,
   HaltsShowOneMarker,
   InterruptedTreesRecover,
+  SealedReadsNew,
   SealsGoForward,
   TurnedGoBack,
+  UncleanReadsNew,
   UndoneGoBack,
   UnplannedGoBack,
   UnplannedShowNoJournal,
@@ -78,6 +80,13 @@ pub fn failed_calls_tell_places()
     ensures staging { FailedStagingsTellPlaces }
     ensures groups { FailedStepsTellPlaces }
     ensures seal { FailedSealsTellPlaces }
+{}
+
+/// Where a call behind the seal failed, or the seal itself and `done` stands, the commit is done but for its own files: the tree that
+/// reads is the edited one beside the staging directory, and recovery ends with the edited tree in either direction.
+pub fn unclean_ends_read_new()
+    ensures cleaning { UncleanReadsNew }
+    ensures seal { SealedReadsNew }
 {}
 
 /// Where a call of the staging failed and `plan` doesn't stand: whatever stands in the staging directory is the first marker, a
