@@ -60,7 +60,7 @@ each_stands (node ∷ nodes) (f ∷ fs) k t same few kinds =
     let here = fresh_here node nodes k t few in
     (((λ nothing. nothing), ap is_some here, ap is_dir_node here ∙ kinds.0), each_stands nodes fs (k + 1) (insert t (staged (fresh_name k)) node) (omega arith) (omega arith) kinds.1)
 
-each_once : (fs : List Fresh) (k : ℕ) → k + length fs ≤ 2 ^ 32 → AreOnce (fresh_items k fs)
+pub each_once : (fs : List Fresh) (k : ℕ) → k + length fs ≤ 2 ^ 32 → AreOnce (fresh_items k fs)
 each_once [] k few = tt
 each_once (f ∷ fs) k few = (none_later fs (k + 1) k (omega arith) (omega arith), each_once fs (k + 1) (omega arith))
   where

@@ -13,7 +13,7 @@ use Rattle.tree_core.proofs.Runs.{IsSafe, closed_synced, safe_all, safe_can, saf
 use Rattle.tree_core.proofs.Moments.{Pending, durable-sync}
 use Rattle.step_trees.proofs.RemovalLemmas.{no_dir}
 use Rattle.commit_steps.specs.declared.step.Step.{Step}
-use Rattle.commit_steps.specs.Staging.{staging, staged, sealed, undone}
+use Rattle.commit_steps.specs.Staging.{staging, staged, plan, sealed, undone}
 use Rattle.commit_steps.specs.Steps.{HasPaths}
 use Rattle.step_trees.specs.Steps.{after}
 use Rattle.step_trees.specs.Groups.{groups, joined, to_next_cut, from_last_cut, left_of, taken_of}
@@ -21,11 +21,12 @@ use Rattle.step_trees.specs.Leads.{start, Leads}
 use Rattle.step_trees.proofs.LeadLemmas.{Led, led}
 use Rattle.step_trees.proofs.PlaceLemmas.{Remains, all_remain}
 use Rattle.commit_states.specs.declared.held.Held.{Held}
-use Rattle.commit_states.specs.Interrupted.{StandsAs, IsWritten, AreJournals, IsInterruptedBy, nothing_staged, no_journal, GoesForward}
-use Rattle.commit_states.specs.Calls.{fresh_nodes, commit_calls, staging_calls, unstage_calls, Unstages, Items, ClearsItems, close_calls, group_calls, calls_from, resume_calls, seal_calls, cleaning_calls, Cleans, turn_calls, home_calls, end_calls, fresh_items, CleansItems}
+use Rattle.commit_states.specs.Interrupted.{StandsAs, IsWritten, AreJournals, IsInterruptedBy, nothing_staged, no_journal, GoesForward, ReadsNew}
+use Rattle.commit_states.specs.Calls.{fresh_nodes, early_items, commit_calls, staging_calls, unstage_calls, Unstages, Items, ClearsItems, close_calls, group_calls, calls_from, resume_calls, seal_calls, cleaning_calls, Cleans, turn_calls, home_calls, end_calls, fresh_items, CleansItems}
 use Rattle.commit_states.specs.Fits.{Fits}
+use Rattle.commit_states.specs.Reads.{IsAllNamed}
 use Rattle.commit_states.specs.Stops.{IsStaging, Unplanned, Halted, Turned, TurnsRound, BehindSeal, AllUndone}
-use Rattle.commit_states.specs.Laws.{LeadsSafely, staged_history, stepped_history}
+use Rattle.commit_states.specs.Laws.{LeadsSafely, staged_history, stepped_history, sealed_history}
 use Rattle.commit_states.proofs.CommitLemmas.{safe_commit, done_commit, leads, ready1, gone}
 use Rattle.commit_states.proofs.HaltLemmas.{halted, halted_in, split_failed}
 use Rattle.commit_states.proofs.FinishLemmas.{seal_halted, sealed_stands, before_end}
@@ -36,8 +37,8 @@ use Rattle.commit_states.proofs.TextLemmas.{written_are}
 use Rattle.commit_states.specs.Places.{InStaging, AmongGroups, AtSeal, SealOrBehind}
 use Rattle.commit_states.proofs.ResumeLemmas.{safe_forward, done_forward}
 use Rattle.commit_states.proofs.ReturnLemmas.{safe_back, done_back, at_turn, safe_back_at, done_back_at}
-use Rattle.commit_states.proofs.UncleanLemmas.{unclean}
-use Rattle.commit_states.proofs.StageLemmas.{failed_staging, staging_place}
+use Rattle.commit_states.proofs.UncleanLemmas.{unclean, unclean_reads, sealed_reads}
+use Rattle.commit_states.proofs.StageLemmas.{failed_staging, staging_place, staging_names_left}
 use Rattle.commit_states.proofs.UnstageLemmas.{safe_unstage, done_unstage}
 use Rattle.step_trees.specs.Entries.{IsHeld}
 use Rattle.step_trees.proofs.NameLemmas.{own-sealed, own-undone, own-back}
@@ -82,6 +83,16 @@ module _ (steps : List Step) (fs : List Fresh) (journal : List ℕ) (hs : List H
   seals_go_forward last before first failed c left = unclean (IsWritten steps) steps (current_tree o) new nodes lead hs fits.cleans o (stepped_history steps fs journal o)
       (gone steps fs journal hs new o durable sound fits).ready last before first failed c left
 
+  pub uncleans_read : (last : History) (before : FileTree) (first : CallName) → FailedIn (call.Sync ∷ cleaning_calls hs (length steps)) (sealed_history steps fs journal o) last before first
+      → ReadsNew (IsWritten steps) steps (current_tree o) new nodes (current_tree last)
+  uncleans_read last before first failed = unclean_reads (IsWritten steps) steps (current_tree o) new nodes lead hs fits.cleans o (stepped_history steps fs journal o)
+      (gone steps fs journal hs new o durable sound fits).ready last before first failed
+
+  pub seals_read : (last : History) (before : FileTree) (first : CallName) → FailedIn seal_calls (stepped_history steps fs journal o) last before first → Stands (current_tree last) (staged sealed)
+      → ReadsNew (IsWritten steps) steps (current_tree o) new nodes (current_tree last)
+  seals_read last before first failed stands = sealed_reads (IsWritten steps) steps (current_tree o) new nodes lead hs fits.cleans o (stepped_history steps fs journal o)
+      (gone steps fs journal hs new o durable sound fits).ready last before first failed stands
+
   pub groups_halt : (front behind : List (List Step)) (g : List Step) → groups steps ≡ front ++ g ∷ behind → (k : ℕ) → k ≡ length (joined front)
       → (last : History) (before : FileTree) (first : CallName) → FailedIn (group_calls k g) (then_all (staged_history fs journal o) (calls_from 0 front)) last before first
       → (h : Halted (IsWritten steps) steps (current_tree o) new nodes o last) × ((h.m ≡ k) ⊎ (h.m ≡ k + length g))
@@ -95,6 +106,10 @@ module _ (steps : List Step) (fs : List Fresh) (journal : List ℕ) (hs : List H
 
   pub places_staging : (last : History) (before : FileTree) (first : CallName) → FailedIn (staging_calls fs journal) (Then o call.Sync) last before first → InStaging steps (current_tree o) first before
   places_staging last before first failed = staging_place (IsWritten steps) steps new fs journal o durable sound fits.absent fits.lawful fits.few_fresh fits.journal_is lead last before first failed
+
+  pub names_staging : (last : History) (before : FileTree) (first : CallName) → FailedIn (staging_calls fs journal) (Then o call.Sync) last before first
+      → IsAbsent (current_tree last) (staged plan) → IsAllNamed (early_items fs) (current_tree last)
+  names_staging last before first failed no_plan = staging_names_left (IsWritten steps) steps new fs journal o durable sound fits.absent fits.lawful fits.few_fresh fits.journal_is lead last before first no_plan failed
 
   pub places_among : (last : History) (before : FileTree) (first : CallName) → FailedIn (calls_from 0 (groups steps)) (staged_history fs journal o) last before first → AmongGroups steps before
   places_among last before first failed =

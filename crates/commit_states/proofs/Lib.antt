@@ -24,3 +24,4 @@ pub mod RecoverLemmas
 pub mod TextLemmas
 pub mod MarkerLemmas
 pub mod PlaceLemmas
+pub mod EarlyLemmas

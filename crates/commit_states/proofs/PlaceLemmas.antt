@@ -1,5 +1,5 @@
 -- The tree before a call that failed.
-use Rattle.std.proofs.Common.{◌≡◌, ◌⊎◌, inl, inr, ℕ, List, [], ◌∷◌, ◌++◌, refl, ◌∙◌, ap, Option, Some, None, is_some}
+use Rattle.std.proofs.Common.{◌≡◌, ◌⊎◌, inl, inr, ⊎_elim, ℕ, List, [], ◌∷◌, ◌++◌, refl, sym, ◌∙◌, ap, subst, Option, Some, None, is_some}
 use Rattle.std.specs.FinMap.{get}
 use Rattle.tree_core.specs.declared.node.Node.{Node}
 use Rattle.tree_core.specs.declared.node.Change.{Change}
@@ -9,7 +9,7 @@ use Rattle.tree_core.specs.FileTree.{FileTree, IsTree, IsAbsent, Stands}
 use Rattle.tree_core.specs.History.{History, Then, current_tree}
 use Rattle.tree_core.specs.Runs.{FailedIn}
 use Rattle.tree_core.proofs.TreeLemmas.{absent_below}
-use Rattle.tree_core.proofs.Moments.{Pending, pending-kept}
+use Rattle.tree_core.proofs.Moments.{Pending, pending-kept, pending-sync}
 use Rattle.tree_core.proofs.Runs.{IsClosed}
 use Rattle.commit_steps.specs.declared.step.Step.{Step}
 use Rattle.commit_steps.specs.Staging.{staging, staged, plan, sealed, undone}
@@ -32,6 +32,18 @@ closed_before Q h last before first [] p closed (inl f) = (h, p, f.tree)
 closed_before Q h last before first [] p closed (inr nothing) = absurd nothing
 closed_before Q h last before first (c ∷ cs) p closed (inl f) = (h, p, f.tree)
 closed_before Q h last before first (c ∷ cs) p closed (inr more) = closed_before Q (Then h c) last before first cs (pending-kept h Q c closed.0 p closed.1 closed.2) closed.3 more
+
+-- and holds where one of them, or the sync, failed
+pub closed_behind : (Q : FileTree → Type 0) (h last : History) (before : FileTree) (first : CallName) (cs : List Change) → Pending h Q → IsClosed Q h cs
+    → FailedIn (cs ++ call.Sync ∷ []) h last before first → Pending last Q
+closed_behind Q h last before first [] p closed (inl f) = ⊎_elim
+    (λ is. subst (λ (x : History). Pending x Q) (sym is) p)
+    (λ is. subst (λ (x : History). Pending x Q) (sym is) (pending-sync h Q p.sound p.now)) f.fate
+closed_behind Q h last before first [] p closed (inr nothing) = absurd nothing
+closed_behind Q h last before first (c ∷ cs) p closed (inl f) = ⊎_elim
+    (λ is. subst (λ (x : History). Pending x Q) (sym is) p)
+    (λ is. subst (λ (x : History). Pending x Q) (sym is) (pending-kept h Q c closed.0 p closed.1 closed.2)) f.fate
+closed_behind Q h last before first (c ∷ cs) p closed (inr more) = closed_behind Q (Then h c) last before first cs (pending-kept h Q c closed.0 p closed.1 closed.2) closed.3 more
 
 holds_none : (t : FileTree) → HoldsOnly t (λ name node. ⊥) → (x : List ℕ) → IsAbsent t (staged x)
 holds_none t only x = by_node (get t (staged x)) refl

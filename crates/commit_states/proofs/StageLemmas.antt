@@ -10,7 +10,7 @@ use Rattle.tree_core.specs.declared.changes.Fresh.{Fresh}
 use Rattle.tree_core.specs.declared.changes.Fresh.TheVariants as fresh
 use Rattle.tree_core.specs.declared.node.Change.{Change}
 use Rattle.tree_core.specs.declared.node.Change.TheVariants as call
-use Rattle.tree_core.specs.FileTree.{FileTree, IsAbsent, IsDir, IsFile, CanDo, CanMake, CanRename, done, insert_same, renamed, is_dir_node, is_file_node}
+use Rattle.tree_core.specs.FileTree.{FileTree, IsTree, IsAbsent, IsDir, IsFile, CanDo, CanMake, CanRename, done, insert_same, renamed, is_dir_node, is_file_node}
 use Rattle.tree_core.specs.History.{History, Then, IsSound, current_tree, next_number, is_sync, IsDurable, LeavesOnly}
 use Rattle.tree_core.specs.Runs.{then_all, FailedIn}
 use Rattle.tree_core.proofs.TreeLemmas.{absent_below}
@@ -18,7 +18,9 @@ use Rattle.tree_core.proofs.Sound.{get-inserted, get-inserted_other, by_place}
 use Rattle.tree_core.proofs.Moments.{durable-sync, pending-sync, Keeps, Pending, pending-durable, started-durable, goes_on-sync}
 use Rattle.tree_core.proofs.Runs.{IsSafe, IsClosed, closed_failed, safe_failed, closed_append, closed_synced, closed_pending, closed_can, safe_append, safe_all, sound_all, single_synced, then_all-append}
 use Rattle.commit_states.proofs.LoopLemmas.{Ready, forward_at}
-use Rattle.commit_states.specs.Calls.{fresh_call, fresh_calls, node_or, fresh_node, fresh_nodes, number_behind, IsLawfulFresh, AreLawfulFresh, stage_calls, plan_calls}
+use Rattle.commit_states.specs.Calls.{fresh_call, fresh_calls, node_or, fresh_node, fresh_nodes, number_behind, IsLawfulFresh, AreLawfulFresh, early_items, stage_calls, plan_calls}
+use Rattle.commit_states.specs.Reads.{IsAllNamed}
+use Rattle.commit_states.proofs.EarlyLemmas.{none_named, early_named, early_failed}
 use Rattle.commit_states.specs.Interrupted.{bare, JournalAt, StandsAs, StandsAfter, IsInterruptedBy, nothing_staged, no_journal}
 use Rattle.commit_steps.specs.Staging.{staging, staged, plan, sealed, undone, new_journal, at_marker, fresh_name}
 use Rattle.commit_steps.specs.declared.step.Step.{Step}
@@ -194,6 +196,14 @@ module _ (old : FileTree) where
     },
     f.is,
   )
+
+pub no_journal_yet : (target t : FileTree) → IsTree t → IsStaging target t → HasNoJournal t
+no_journal_yet target t tree (inl none) = record {
+  no_plan = absent_below t tree staging none.0 (plan ∷ []);
+  no_seal = absent_below t tree staging none.0 (sealed ∷ []);
+  no_undone = absent_below t tree staging none.0 (undone ∷ []);
+}
+no_journal_yet target t tree (inr f) = (unnamed target t f.dir (inr f)).0
 
 -- ---- the whole of it
 
@@ -499,4 +509,30 @@ module _ (Text : List ℕ → Type 0) (steps : List Step) (new : FileTree) (fs :
     pub staging_place : FailedIn ((stage_calls fs journal ++ call.Sync ∷ []) ++ plan_calls) now last before first → Place
     staging_place failed = ⊎_elim staged_place
         (λ two. plan_place (subst (λ (h : History). FailedIn plan_calls h last before first) is_written two))
+        (split_failed (stage_calls fs journal ++ call.Sync ∷ []) plan_calls now last before first failed)
+
+  -- ---- the names where a call of the staging failed and the journal doesn't have its name
+
+  module _ (last : History) (before : FileTree) (first : CallName) (no_plan : IsAbsent (current_tree last) (staged plan)) where
+    abbrev Named : FileTree → Type 0
+    Named = IsAllNamed (early_items fs)
+
+    named_now : Named old
+    named_now = none_named fs journal old sound.tree absent
+
+    named_written : Named y0
+    named_written = subst (λ (h : History). Named (current_tree h)) is_written (early_named fs journal now named_now)
+
+    plan_stood : (x : History) → last ≡ x → current_tree x ≡ z0 → Named (current_tree last)
+    plan_stood x is same = absurd (none-some _ (sym no_plan ∙ ap (λ t. get t (staged plan)) (ap current_tree is ∙ same) ∙ planned.journal.stands))
+
+    plan_failed : FailedIn plan_calls written last before first → Named (current_tree last)
+    plan_failed (inl f) = ⊎_elim (λ is. subst (λ (h : History). Named (current_tree h)) (sym is) named_written) (λ is. plan_stood named is refl) f.fate
+    plan_failed (inr (inl f)) = ⊎_elim (λ is. plan_stood named is refl) (λ is. plan_stood ready is refl) f.fate
+    plan_failed (inr (inr nothing)) = absurd nothing
+
+    pub staging_names_left : FailedIn ((stage_calls fs journal ++ call.Sync ∷ []) ++ plan_calls) now last before first → Named (current_tree last)
+    staging_names_left failed = ⊎_elim
+        (λ one. early_failed fs journal now last before first named_now one)
+        (λ two. plan_failed (subst (λ (h : History). FailedIn plan_calls h last before first) is_written two))
         (split_failed (stage_calls fs journal ++ call.Sync ∷ []) plan_calls now last before first failed)

@@ -215,6 +215,10 @@ abbrev pub fresh_items : ℕ → List Fresh → Items
 fresh_items k [] = []
 fresh_items k (f ∷ fs) = (fresh_name k, false) ∷ fresh_items (k + 1) fs
 
+-- what a commit makes before its journal has its name: the first marker, the fresh entries, and the journal under its first name
+abbrev pub early_items : List Fresh → Items
+early_items fs = (at_marker 0, false) ∷ (fresh_items 0 fs ++ (new_journal, false) ∷ [])
+
 -- the fresh entries and the marker, and when that is durable the journal and the directory
 abbrev pub clearing_calls : List Fresh → List Change
 clearing_calls fs = (removals_of (fresh_items 0 fs) (back_marker 0) ++ call.Sync ∷ []) ++ (last_of undone ++ call.Sync ∷ [])

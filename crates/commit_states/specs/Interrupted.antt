@@ -120,6 +120,15 @@ ending {old = old} way (back leads k m u le cut some stands) = old
 ending {new = new} way (behind_seal leads dir journal only is) = new
 ending {old = old} way (all_undone leads dir journal only is) = old
 
--- an interrupted tree from which a recovery forward ends with the edited tree
+-- an interrupted tree from which a recovery in this direction ends with the edited tree
+abbrev pub LeadsToNew : (List ℕ → Type 0) → List Step → FileTree → FileTree → List Node → Bool → FileTree → Type 0
+LeadsToNew Text steps old new fresh way t = (row : IsInterruptedBy Text steps old new fresh t) × (ending way row ≡ new)
+
+-- in the direction forward
 abbrev pub GoesForward : (List ℕ → Type 0) → List Step → FileTree → FileTree → List Node → FileTree → Type 0
-GoesForward Text steps old new fresh t = (row : IsInterruptedBy Text steps old new fresh t) × (ending false row ≡ new)
+GoesForward Text steps old new fresh t = LeadsToNew Text steps old new fresh false t
+
+-- In either direction, and but for the staging directory the edited tree stands already.
+pub record ReadsNew (Text : List ℕ → Type 0) (steps : List Step) (old new : FileTree) (fresh : List Node) (t : FileTree) : Type 0 where
+  pub leads : (way : Bool) → LeadsToNew Text steps old new fresh way t
+  pub is : rest t ≡ new

@@ -12,13 +12,14 @@ use Rattle.commit_steps.specs.declared.step.Step.{Step}
 use Rattle.commit_steps.specs.declared.step.Step.TheVariants.{MakeDir}
 use Rattle.commit_journal.specs.declared.version.Version.TheVariants.{Two}
 use Rattle.commit_journal.specs.Spelling.{journal_text}
-use Rattle.commit_steps.specs.Staging.{staging, staged, at_marker, sealed, undone}
+use Rattle.commit_steps.specs.Staging.{staging, staged, at_marker, plan, sealed, undone}
 use Rattle.step_trees.specs.Groups.{groups, joined}
 use Rattle.step_trees.specs.Leads.{start, at_place, Leads}
 use Rattle.commit_states.specs.declared.held.Held.{Held}
-use Rattle.commit_states.specs.Interrupted.{IsWritten, JournalKind, IsOfKind, IsInterruptedBy, IsInterrupted, ending, GoesForward}
-use Rattle.commit_states.specs.Calls.{fresh_nodes, commit_calls, staging_calls, group_calls, calls_from, resume_calls, seal_calls, cleaning_calls, Cleans, turn_calls, home_calls, end_calls, fresh_items, CleansItems, unstage_calls, Unstages, Items, ClearsItems, close_calls}
-use Rattle.commit_states.specs.Places.{InStaging, AmongGroups, SealOrBehind}
+use Rattle.commit_states.specs.Interrupted.{IsWritten, JournalKind, IsOfKind, IsInterruptedBy, IsInterrupted, ending, GoesForward, ReadsNew}
+use Rattle.commit_states.specs.Calls.{fresh_nodes, commit_calls, staging_calls, group_calls, calls_from, resume_calls, seal_calls, cleaning_calls, Cleans, turn_calls, home_calls, end_calls, fresh_items, early_items, CleansItems, unstage_calls, Unstages, Items, ClearsItems, close_calls}
+use Rattle.commit_states.specs.Places.{HasNoJournal, InStaging, AmongGroups, SealOrBehind}
+use Rattle.commit_states.specs.Reads.{IsAllNamed}
 use Rattle.commit_states.specs.Fits.{Fits, edited_by}
 use Rattle.commit_states.specs.Stops.{Unplanned, Halted, Turned, TurnsRound, still_left, already_done, to_undo, to_undo_behind, BehindSeal, AllUndone}
 
@@ -53,6 +54,10 @@ staged_history fs journal o = then_all (Then o call.Sync) (staging_calls fs jour
 abbrev pub stepped_history : List Step → List Fresh → List ℕ → History → History
 stepped_history steps fs journal o = then_all (staged_history fs journal o) (calls_from 0 (groups steps))
 
+-- and with `done`, before the sync behind the seal
+abbrev pub sealed_history : List Step → List Fresh → List ℕ → History → History
+sealed_history steps fs journal o = Then (stepped_history steps fs journal o) (call.Rename (staged plan) (staged sealed))
+
 -- Where a call of the staging failed, the journal doesn't have its name yet, or `at-0` stands and no step is done.
 abbrev pub FailedStagingsStop : Type 0
 FailedStagingsStop =
@@ -77,6 +82,25 @@ FailedSealsGoForward =
     → Fits steps fs journal hs new (current_tree o) (next_number o)
     → (last : History) (before : FileTree) (first : CallName) → FailedIn (seal_calls ++ cleaning_calls hs (length steps)) (stepped_history steps fs journal o) last before first
     → (c : FileTree) → IsCrashState last c → GoesForward (IsWritten steps) steps (current_tree o) new (fresh_nodes (current_tree o) (next_number o + 1) fs) c
+
+-- Where the sync behind the seal or a call of the cleaning failed, the tree that reads is the edited one but for the staging
+-- directory, and recovery ends with it in either direction.
+abbrev pub UncleanReadsNew : Type 0
+UncleanReadsNew =
+    (steps : List Step) (fs : List Fresh) (journal : List ℕ) (hs : List Held) (new : FileTree) (o : History) → IsDurable o → IsSound o
+    → Fits steps fs journal hs new (current_tree o) (next_number o)
+    → (last : History) (before : FileTree) (first : CallName)
+    → FailedIn (call.Sync ∷ cleaning_calls hs (length steps)) (sealed_history steps fs journal o) last before first
+    → ReadsNew (IsWritten steps) steps (current_tree o) new (fresh_nodes (current_tree o) (next_number o + 1) fs) (current_tree last)
+
+-- So it is where the seal itself failed and `done` stands.
+abbrev pub SealedReadsNew : Type 0
+SealedReadsNew =
+    (steps : List Step) (fs : List Fresh) (journal : List ℕ) (hs : List Held) (new : FileTree) (o : History) → IsDurable o → IsSound o
+    → Fits steps fs journal hs new (current_tree o) (next_number o)
+    → (last : History) (before : FileTree) (first : CallName)
+    → FailedIn seal_calls (stepped_history steps fs journal o) last before first → Stands (current_tree last) (staged sealed)
+    → ReadsNew (IsWritten steps) steps (current_tree o) new (fresh_nodes (current_tree o) (next_number o + 1) fs) (current_tree last)
 
 -- Of a group that begins at place k: where one of its calls failed, the marker stands at k or behind the group.
 abbrev pub FailedGroupsHalt : Type 0
@@ -136,6 +160,20 @@ FailedSealsTellPlaces =
     → (last : History) (before : FileTree) (first : CallName)
     → FailedIn (seal_calls ++ cleaning_calls hs (length steps)) (stepped_history steps fs journal o) last before first
     → SealOrBehind steps new first before
+
+-- Where a call of the staging failed and `plan` doesn't stand, all that stands in the staging directory has an early name.
+abbrev pub FailedStagingsName : Type 0
+FailedStagingsName =
+    (steps : List Step) (fs : List Fresh) (journal : List ℕ) (hs : List Held) (new : FileTree) (o : History) → IsDurable o → IsSound o
+    → Fits steps fs journal hs new (current_tree o) (next_number o)
+    → (last : History) (before : FileTree) (first : CallName) → FailedIn (staging_calls fs journal) (Then o call.Sync) last before first
+    → IsAbsent (current_tree last) (staged plan) → IsAllNamed (early_items fs) (current_tree last)
+
+-- One look tells: `plan` doesn't stand, nor `done` and `undone`, where no journal has its name yet. In a `Halted` tree it stands.
+abbrev pub UnplannedShowNoJournal : Type 0
+UnplannedShowNoJournal =
+    (kind : JournalKind) (steps : List Step) (old new : FileTree) (fresh : List Node) (target : FileTree) (began now : History)
+    → Unplanned (IsOfKind kind steps) steps old new fresh target began now → HasNoJournal (current_tree now)
 
 -- ---- other journals
 

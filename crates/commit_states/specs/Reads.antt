@@ -1,17 +1,18 @@
 -- The names that are read in the staging directory are enough to clear it.
-use Rattle.std.specs.Prelude.{◌≡◌, ◌⊎◌, ℕ, ◌≤◌, ◌^◌, Bool, false, not, List, [], ◌∷◌, length}
+use Rattle.std.specs.Prelude.{◌≡◌, ◌⊎◌, ℕ, ◌≤◌, ◌^◌, Bool, false, not, List, [], ◌∷◌, length, Some}
 use Rattle.std.specs.List.{AllByRecursion, filter}
 use Rattle.std.specs.FinMap.{get}
 use Rattle.std.specs.Str.{bytes_eq}
 use Rattle.tree_core.specs.Fields.{names_in}
 use Rattle.tree_core.specs.declared.changes.Fresh.{Fresh}
+use Rattle.tree_core.specs.declared.node.Node.{Node}
 use Rattle.tree_core.specs.FileTree.{FileTree, IsTree, IsAbsent, Stands, IsDir, is_dir_node}
 use Rattle.commit_steps.specs.Staging.{staging, staged, sealed, undone, at_marker, back_marker}
 use Rattle.step_trees.specs.Entries.{IsHeld, IsFresh, HoldsOnly}
 use Rattle.step_trees.specs.Leads.{start}
 use Rattle.commit_states.specs.declared.held.Held.{Held}
 use Rattle.commit_states.specs.Interrupted.{IsOne}
-use Rattle.commit_states.specs.Calls.{fresh_nodes, AreLawfulFresh, fresh_items, Items, held_items, Cleans, CleansItems, ClearsItems, Unstages}
+use Rattle.commit_states.specs.Calls.{fresh_nodes, AreLawfulFresh, fresh_items, early_items, Items, held_items, Cleans, CleansItems, ClearsItems, Unstages}
 use Rattle.commit_states.specs.Stops.{IsEarly}
 
 -- it is the name of one of these
@@ -23,6 +24,10 @@ IsNamed name (x ∷ xs) = (name ≡ x.0) ⊎ IsNamed name xs
 abbrev pub AreOnce : Items → Type 0
 AreOnce [] = Unit {0}
 AreOnce (x ∷ xs) = (IsNamed x.0 xs → ⊥) × AreOnce xs
+
+-- Whatever stands in the staging directory has one of these names.
+abbrev pub IsAllNamed : Items → FileTree → Type 0
+IsAllNamed xs t = (name : List ℕ) → Stands t (staged name) → IsNamed name xs
 
 -- These are the names under which something stands in the staging directory, but for those that Left holds of, each once, with
 -- whether it is a directory.
@@ -61,6 +66,13 @@ FreshNamesSuffice = (t : FileTree) → HoldsOnly t IsFresh → (xs : Items) → 
 abbrev pub FreshEntriesSuffice : Type 0
 FreshEntriesSuffice = (old : FileTree) (fs : List Fresh) (next : ℕ) → IsTree old → IsAbsent old staging → AreLawfulFresh old fs → length fs ≤ 2 ^ 32
     → CleansItems (fresh_items 0 fs) (start old (fresh_nodes old next fs))
+
+-- The names that a commit makes before its journal has its name are once each, and no directory stands under such a name.
+abbrev pub EarlyItemsAreOnce : Type 0
+EarlyItemsAreOnce = (fs : List Fresh) → length fs ≤ 2 ^ 32 → AreOnce (early_items fs)
+
+abbrev pub EarlyNamesAreNoDirectories : Type 0
+EarlyNamesAreNoDirectories = (name : List ℕ) (node : Node) → IsEarly name node → is_dir_node (Some node) ≡ false
 
 -- ---- what is read
 

@@ -6,6 +6,7 @@ ghost use Rattle.commit_states.specs.Laws.{
   FailedSealsGoForward,
   FailedSealsHalt,
   FailedSealsTellPlaces,
+  FailedStagingsName,
   FailedStagingsStop,
   FailedStagingsTellPlaces,
   FailedStepsHalt,
@@ -15,15 +16,20 @@ ghost use Rattle.commit_states.specs.Laws.{
   HaltsShowNoSeal,
   HaltsShowOneMarker,
   InterruptedTreesRecover,
+  SealedReadsNew,
   SealsGoForward,
   TurnedGoBack,
+  UncleanReadsNew,
   UndoneGoBack,
   UnplannedGoBack,
+  UnplannedShowNoJournal,
   UnstagedGoBack,
   WrittenAreInterrupted,
 };
 ghost use Rattle.commit_states.specs.Phases.{JournalsTell, RowsExclude};
 ghost use Rattle.commit_states.specs.Reads.{
+  EarlyItemsAreOnce,
+  EarlyNamesAreNoDirectories,
   EarlyNamesSuffice,
   FreshEntriesSuffice,
   FreshNamesSuffice,
@@ -74,6 +80,23 @@ pub fn failed_calls_tell_places()
     ensures staging { FailedStagingsTellPlaces }
     ensures groups { FailedStepsTellPlaces }
     ensures seal { FailedSealsTellPlaces }
+{}
+
+/// Where a call behind the seal failed, or the seal itself and `done` stands, the commit is done but for its own files: the tree that
+/// reads is the edited one beside the staging directory, and recovery ends with the edited tree in either direction.
+pub fn unclean_ends_read_new()
+    ensures cleaning { UncleanReadsNew }
+    ensures seal { SealedReadsNew }
+{}
+
+/// Where a call of the staging failed and `plan` doesn't stand: whatever stands in the staging directory is the first marker, a
+/// fresh entry of the commit, or the journal under its first name. These names are once each, and none is a directory's. One look
+/// tells: nothing stands under `plan` where no journal has its name yet.
+pub fn failed_stagings_tell_names()
+    ensures names { FailedStagingsName }
+    ensures once { EarlyItemsAreOnce }
+    ensures kinds { EarlyNamesAreNoDirectories }
+    ensures no_journal { UnplannedShowNoJournal }
 {}
 
 /// Where a journal stands in a tree that a commit may leave, it is of version 2, as the commit wrote it. Such a tree is an
