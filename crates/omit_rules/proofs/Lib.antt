@@ -1,0 +1,4 @@
+pub mod FaultLemmas
+pub mod RuleLemmas
+pub mod SettingsLemmas
+pub mod ValueLemmas
