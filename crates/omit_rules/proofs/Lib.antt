@@ -1,4 +1,3 @@
-pub mod FaultLemmas
 pub mod RuleLemmas
-pub mod SettingsLemmas
+pub mod TableLemmas
 pub mod ValueLemmas

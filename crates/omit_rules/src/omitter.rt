@@ -4,7 +4,6 @@ ghost use Rattle.std.specs.List.{list_any};
 ghost use Rattle.omit_rules.specs.Omitting.{Searches};
 ghost use Rattle.omit_rules.specs.Rules.{is_omitted, matches_any, has_extension as has_extension_by};
 
-
 use crate::Rules;
 use dired_text::{Memory, Text};
 use regex::{Matcher, Regex};
@@ -47,10 +46,7 @@ impl<'r> Omitter<'r> {
     }
 }
 
-fn matcher_of<'r>(
-    alloc: Global,
-    regexp: &'r Option<Regex>,
-) -> Result<Option<Matcher<'r>>, Memory>
+fn matcher_of<'r>(alloc: Global, regexp: &'r Option<Regex>) -> Result<Option<Matcher<'r>>, Memory>
     ensures { IfOk result (λ matcher. Searches matcher regexp.now) }
 {
     match regexp {

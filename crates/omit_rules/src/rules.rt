@@ -1,5 +1,5 @@
 // The rules that settings give: which names are omitted, and which command is guessed.
-ghost use Rattle.std.specs.Prelude.{◌≡◌, IfOk};
+ghost use Rattle.std.specs.Prelude.{◌≡◌, [], ◌∷◌, ◌++◌, IfOk, IfErr, OnOk};
 ghost use Rattle.dired_text.specs.Patterns.{CountsRefusals};
 ghost use Rattle.omit_rules.specs.Rules.{is_omitted, guess_for, matches_all as all_match, AreRulesOf, AreRulesFor, IsRuleOf, IsPatternFor, IsPatternForAny};
 ghost use Rattle.omit_rules.specs.Omitters.{rules_of};
@@ -41,7 +41,9 @@ impl Rules {
         ensures rules { IfOk result (AreRulesOf (values_of settings.now)) }
         ensures count { CountsRefusals result (P.refusals patterns.old) (P.refusals patterns.new) }
     {
-        let omit_extensions = copy_texts(alloc, &settings.omit_extensions).map_err(|_| PatternsError::Memory)?;
+        let omit_extensions = copy_texts(alloc, &settings.omit_extensions).map_err(
+            |_| PatternsError::Memory,
+        )?;
         let omit_regexp = build_any(alloc, patterns, &settings.omit_regexp)?;
         let guesses = build_guesses(alloc, patterns, &settings.guesses)?;
         Ok(Rules {
@@ -143,9 +145,19 @@ fn build_guesses<P: Patterns>(
     let mut rules = Vec::new(alloc);
     for guess in guesses {
         let rule = build_guess(alloc, patterns, guess)?;
-        rules.push(rule).map_err(|_| PatternsError::Memory)?;
+        push_rule(&mut rules, rule)?;
     }
     Ok(rules)
+}
+
+fn push_rule(rules: &mut Vec<GuessRule>, rule: GuessRule) -> Result<(), PatternsError>
+    ensures pushed { OnOk result (rules.new.items ≡ rules.old.items ++ rule ∷ []) }
+    ensures memory { IfErr result (λ error. error ≡ PatternsError.Memory) }
+{
+    match rules.push(rule) {
+        Ok(()) => Ok(()),
+        Err(_) => Err(PatternsError::Memory),
+    }
 }
 
 fn build_guess<P: Patterns>(

@@ -2,7 +2,7 @@ use Rattle.std.proofs.Common.{◌∙◌, ap}
 use Rattle.std.specs.List.{list_all}
 use Rattle.toml.specs.View.{view}
 use Rattle.omit_rules.specs.Faults.{is_text, are_texts_in}
-use Rattle.omit_rules.proofs.FaultLemmas.{texts-seen}
+use Rattle.omit_rules.proofs.TableLemmas.{texts-seen}
 use Rattle.omit_rules.proofs.checking.are_texts.Goals as goal
 
 pub returns-in-Some : goal.returns-in-Some

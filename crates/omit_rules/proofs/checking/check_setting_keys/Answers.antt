@@ -1,6 +1,6 @@
 use Rattle.std.proofs.Common.{◌∙◌, ap, sym, flat_map, map, string_bytes}
 use Rattle.omit_rules.specs.Faults.{unknown_setting}
-use Rattle.omit_rules.proofs.FaultLemmas.{keys-seen}
+use Rattle.omit_rules.proofs.TableLemmas.{keys-seen}
 use Rattle.omit_rules.proofs.checking.check_setting_keys.Goals as goal
 
 pub loop-key-init : goal.loop-key-init

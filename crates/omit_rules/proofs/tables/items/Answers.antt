@@ -1,7 +1,7 @@
 use Rattle.std.proofs.Common.{◌∙◌, ap, sym, map}
 use Rattle.toml.specs.View.{view}
 use Rattle.omit_rules.specs.Tables.{items_of}
-use Rattle.omit_rules.proofs.FaultLemmas.{items-seen}
+use Rattle.omit_rules.proofs.TableLemmas.{items-seen}
 use Rattle.omit_rules.proofs.tables.items.Goals as goal
 
 pub returns-in-Some : goal.returns-in-Some
