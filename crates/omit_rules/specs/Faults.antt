@@ -1,6 +1,6 @@
 -- The faults of settings, in the order in which they are told: keys that settings don't have, values of another type, and
 -- regexps with a fault, each first of the settings' own keys, in the order of their bytes, and then of the guesses in turn.
-use Rattle.std.specs.Prelude.{ℕ, Bool, false, ◌||◌, List, [], ◌∷◌, ◌++◌, codes, is_some, flat_map, Option, Some, None, option_to_list, Result, Ok, Err, if◌then◌else◌}
+use Rattle.std.specs.Prelude.{ℕ, Bool, false, ◌||◌, List, [], ◌∷◌, ◌++◌, codes, is_some, flat_map, Option, Some, None, Result, Ok, Err, if◌then◌else◌}
 use Rattle.std.specs.List.{list_all}
 use Rattle.std.specs.Option.{unwrap_or}
 use Rattle.std.specs.Str.{bytes_eq}
@@ -97,10 +97,12 @@ bad_regexp key text = fault_read key (regexp_of text)
 abbrev pub bad_in_guess : Data → List SettingsFault
 bad_in_guess guess = bad_regexp (in_guess (codes "regexp")) (unwrap_or (text_at (codes "regexp") (guess_table guess)) [])
 
+abbrev pub bad_omit_regexp : Option (List ℕ) → List SettingsFault
+bad_omit_regexp None = []
+bad_omit_regexp (Some text) = bad_regexp (codes "omit_regexp") text
+
 abbrev pub bad_regexps : Members → List SettingsFault
-bad_regexps table =
-    flat_map (bad_regexp (codes "omit_regexp")) (option_to_list (text_at (codes "omit_regexp") table))
-    ++ flat_map bad_in_guess (guesses_in table)
+bad_regexps table = bad_omit_regexp (text_at (codes "omit_regexp") table) ++ flat_map bad_in_guess (guesses_in table)
 
 -- ---- all of them
 

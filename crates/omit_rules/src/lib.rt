@@ -5,6 +5,7 @@
 
 mod checking;
 mod fault;
+mod laws;
 mod omitter;
 mod reading;
 mod rules;
@@ -13,6 +14,7 @@ mod tables;
 mod values;
 
 pub use fault::SettingsFault;
+pub use laws::keys_stand_in_order;
 pub use omitter::Omitter;
 pub use reading::read_settings;
 pub use rules::Rules;

@@ -1,10 +1,10 @@
 // The values of settings, and the test of their regexps.
-ghost use Rattle.std.specs.Prelude.{◌≡◌, IfOk, [], codes, flat_map, map, option_map, option_to_list};
+ghost use Rattle.std.specs.Prelude.{◌≡◌, IfOk, [], flat_map, map, option_copied, option_map};
 ghost use Rattle.std.specs.Option.{unwrap_or};
 ghost use Rattle.std.specs.List.{filter_map};
 ghost use Rattle.toml.specs.Data.{as_str};
 ghost use Rattle.toml.specs.View.{view, table_view};
-ghost use Rattle.omit_rules.specs.Faults.{bad_regexps, bad_regexp, bad_in_guess};
+ghost use Rattle.omit_rules.specs.Faults.{bad_regexps, bad_regexp, bad_omit_regexp, bad_in_guess};
 ghost use Rattle.omit_rules.specs.Settings.{Tells};
 ghost use Rattle.omit_rules.specs.Tables.{guess_table, text_at as text_at_key};
 ghost use Rattle.omit_rules.specs.Values.{values_of, values_in, guess_of, regexp_in, kept_at as kept_at_key};
@@ -36,8 +36,8 @@ pub(crate) fn read_values(alloc: Global, table: &Table) -> Result<Settings, Sett
 }
 
 fn read_omit_regexp(alloc: Global, text: Option<&str>) -> Result<Option<Ast>, SettingsFault>
-    ensures faults { Tells (flat_map (bad_regexp (codes "omit_regexp")) (option_to_list (option_map (λ t. t.now) text.entry))) result }
-    ensures regexp { IfOk result (λ ast. ast ≡ option_map regexp_in (option_map (λ t. t.now) text.entry)) }
+    ensures faults { Tells (bad_omit_regexp (option_copied text.entry)) result }
+    ensures regexp { IfOk result (λ ast. ast ≡ option_map regexp_in (option_copied text.entry)) }
 {
     match text {
         Some(text) => {
