@@ -1,5 +1,5 @@
 -- Rules in a row.
-use Rattle.std.proofs.Common.{◌≡◌, ℕ, ◌+◌, ◌<◌, List, [], ◌∷◌, ◌++◌, length, get_or, take, sym, subst}
+use Rattle.std.proofs.Common.{◌≡◌, ℕ, ◌+◌, ◌<◌, List, [], ◌∷◌, ◌++◌, length, get_or, take, subst}
 use Rattle.std.proofs.lemmas.List.{take_more}
 use Rattle.omit_rules.specs.Rules.{AreRulesFor, IsRuleOf}
 use Rattle.omit_rules.specs.declared.rules.GuessRule.{GuessRule}

@@ -1,5 +1,5 @@
 -- What settings hold.
-use Rattle.std.specs.Prelude.{ℕ, List, [], map, codes, Option, Some, None, option_map, option_and_then, Result, Ok, Err}
+use Rattle.std.specs.Prelude.{ℕ, List, [], map, codes, Option, None, option_map, option_and_then, Result, Ok, Err}
 use Rattle.std.specs.List.{filter_map}
 use Rattle.std.specs.Option.{unwrap_or}
 use Rattle.toml.specs.Data.{Data, Members, get_member, as_str, as_array}
