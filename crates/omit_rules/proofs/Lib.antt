@@ -1,0 +1,4 @@
+pub mod OrderLemmas
+pub mod RuleLemmas
+pub mod TableLemmas
+pub mod ValueLemmas

@@ -1,0 +1,8 @@
+use Rattle.std.proofs.Common.{◌≡◌, map, take}
+use Rattle.std.specs.List.{filter_map}
+use Rattle.toml.specs.Data.{as_str}
+use Rattle.toml.specs.View.{view}
+use Rattle.omit_rules.proofs.values.copy_texts.Given as goal
+
+abbrev pub invariant-loop-value : goal.invariant-loop-value
+invariant-loop-value l = l.texts.items ≡ filter_map as_str (map view (take l.value-index l.values))
