@@ -21,7 +21,7 @@ install: $(PROGRAM)
 
 # Cases that are drawn, and compared with a model of the rules.
 fuzz: $(CASES)
-	bash scripts/fuzz-cases.sh $(CASES) $(COUNT) $(SEED)
+	bash scripts/fuzz-cases.sh generate.py $(CASES) $(COUNT) $(SEED)
 
 bench: $(PROGRAM)
 	bash bench/one-name.sh $(PROGRAM)
@@ -38,8 +38,9 @@ $(PROGRAM): crates.txt $(wildcard crates/*/src/*.rt crates/*/specs/*.antt crates
 	test -x $@ || { tail -20 crates/dired_cli/out.log; exit 1; }
 	rm -f crates/dired_cli/out.log
 
+# A program of cases ends well on an empty table.
 $(CASES): crates.txt $(wildcard crates/*/src/*.rt crates/*/specs/*.antt crates/*/proofs/*.antt)
 	rm -f $@
-	cd crates/dired_cases && { rt run < /dev/null > out.log 2>&1 || true; }
-	test -x $@ || { tail -20 crates/dired_cases/out.log; exit 1; }
-	rm -f crates/dired_cases/out.log
+	cd $(dir $(@D)) && { rt run < /dev/null > out.log 2>&1 || true; }
+	test -x $@ || { tail -20 $(dir $(@D))out.log; exit 1; }
+	rm -f $(dir $(@D))out.log

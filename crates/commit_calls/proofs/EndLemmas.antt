@@ -70,7 +70,7 @@ joined-append : (xs ys : List (List Step)) → joined (xs ++ ys) ≡ joined xs +
 joined-append [] ys = refl
 joined-append (x ∷ xs) ys = ap (λ l. x ++ l) (joined-append xs ys) ∙ sym (append_assoc x (joined xs) (joined ys))
 
-cut_at-more : (gs : List (List Step)) (k : ℕ) (g : List Step) → k < length gs → group_at k gs ≡ g → cut_at (k + 1) gs ≡ cut_at k gs + length g
+pub cut_at-more : (gs : List (List Step)) (k : ℕ) (g : List Step) → k < length gs → group_at k gs ≡ g → cut_at (k + 1) gs ≡ cut_at k gs + length g
 cut_at-more gs k g lt is =
     let e : joined (take (k + 1) gs) ≡ joined (take k gs) ++ (group_at k gs ++ []) = ap joined (take_more gs k [] lt) ∙ joined-append (take k gs) (group_at k gs ∷ []) in
     let n : length (joined (take (k + 1) gs)) ≡ length (joined (take k gs) ++ (group_at k gs ++ [])) = ap length e in

@@ -23,7 +23,7 @@ no_victim : (line : ℕ) (vs : List (ℕ × Names)) → FirstOther line vs → (
 no_victim line [] h = (refl, refl)
 no_victim line (v ∷ vs) h = let e = other_line v.0 line h in (rw e refl, rw e refl)
 
-one_held : (r : Row) (v : Option Names) (vs : List (ℕ × Names)) → FirstOther r.line vs
+pub one_held : (r : Row) (v : Option Names) (vs : List (ℕ × Names)) → FirstOther r.line vs
     → (victims_at r.line (cons_option (option_map (λ (p : Names). (r.line, p)) v) vs) ≡ listed v) × (victims_past r.line (cons_option (option_map (λ (p : Names). (r.line, p)) v) vs) ≡ vs)
 one_held r None vs h = no_victim r.line vs h
 one_held r (Some p) vs h = let e = same_line r.line in (rw e refl, rw e refl)
@@ -32,7 +32,7 @@ first_other_by : (line : ℕ) (r : Row) (v : Option Names) (vs : List (ℕ × Na
 first_other_by line r None vs n h = h
 first_other_by line r (Some p) vs n h = n
 
-first_other : (sight : Sight) (all : List Row) (line : ℕ) (rs : List Row) → ((k : ℕ) (o : Row) → slice_get rs k ≡ Some o → o.line ≡ line → ⊥) → FirstOther line (filter_map (victim_line sight all) rs)
+pub first_other : (sight : Sight) (all : List Row) (line : ℕ) (rs : List Row) → ((k : ℕ) (o : Row) → slice_get rs k ≡ Some o → o.line ≡ line → ⊥) → FirstOther line (filter_map (victim_line sight all) rs)
 first_other sight all line [] n = tt
 first_other sight all line (r ∷ rs) n = first_other_by line r (victim_of sight all r) (filter_map (victim_line sight all) rs) (n zero r refl) (first_other sight all line rs (λ k. n (suc k)))
 

@@ -99,7 +99,7 @@ module _ (checked : Checked) (can : CanBeMadeWhereItStands checked) (listed : Li
     steps_are = plan.steps_are ∙ ap (λ (ps : List Names). holds 0 ps ++ (map MakeDir plan.dirs ++ (plan.moves ++ map mode_step plan.modes))) (held_same t stands);
   }
 
-  planned : (t : FileTree) → IsOldTree checked t → ArePlanned t (changes_in checked)
+  pub planned : (t : FileTree) → IsOldTree checked t → ArePlanned t (changes_in checked)
   planned t old = record {
     tree = old.tree;
     asked = asked_with_files (IsFile t) (changes_in checked) asked old.files;

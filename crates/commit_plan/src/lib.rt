@@ -12,4 +12,4 @@ mod planned;
 mod planning;
 
 pub use planned::Plan;
-pub use planning::plan;
+pub use planning::{plan, read_names};

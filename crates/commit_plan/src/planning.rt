@@ -57,8 +57,8 @@ pub fn plan(alloc: Global, checked: &Checked) -> Result<Plan, Memory>
     })
 }
 
-// Reads the names of all paths. That names are lawful is known of a path where they are read.
-fn read_names(rows: &[Row])
+/// Reads the names of all paths. That names are lawful is known of a path where they are read.
+pub fn read_names(rows: &[Row])
     ensures { All HasNames rows.now }
 {
     for row in rows {

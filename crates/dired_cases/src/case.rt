@@ -1,11 +1,10 @@
 // A case, as its rows are read.
-use crate::faults::RowFault;
-use crate::report::head_text;
-use crate::row::Row;
+use crate::row::{Row, read_row};
 use crate::running::{run_on, tree_behind};
 use crate::schedule::Schedule;
+use case_tables::{RowFault, Table, TreeRows, head_text};
 use dired_text::{Bytes, MemShelf, Text};
-use mem_tree::{BuildFault, Entry, MemTree};
+use mem_tree::MemTree;
 use std::alloc::Global;
 use std::mem;
 
@@ -13,9 +12,7 @@ use std::mem;
 #[derive(Drop)]
 pub struct Case {
     alloc: Global,
-    entries: Vec<Entry>,
-    // the line of each entry
-    lines: Vec<u64>,
+    entries: TreeRows,
     inputs: Vec<(Text, Vec<u8>)>,
     // whether the last input has a line
     has_line: bool,
@@ -29,8 +26,7 @@ impl Case {
     pub fn new(alloc: Global) -> Self {
         Case {
             alloc,
-            entries: Vec::new(alloc),
-            lines: Vec::new(alloc),
+            entries: TreeRows::new(alloc),
             inputs: Vec::new(alloc),
             has_line: false,
             schedule: Schedule::new(alloc),
@@ -38,21 +34,16 @@ impl Case {
         }
     }
 
-    /// Takes the row of a line, and answers what is printed behind it.
-    ///
-    /// # Errors
-    /// `Bad` where it can't stand here, and `BadAt` with the line of an entry that can't stand in the tree.
-    pub fn take(&mut self, line: u64, row: Row) -> Result<String, RowFault> {
+    // Takes the row of a line, and answers what is printed behind it. `Bad` where it can't stand here, and `BadAt` with the line of
+    // an entry that can't stand in the tree.
+    fn take_row(&mut self, line: u64, row: Row) -> Result<String, RowFault> {
         match row {
             Row::Case(name) => {
                 *self = Case::new(self.alloc);
                 return Ok(head_text(self.alloc, name.as_str())?);
             }
             Row::Run(words) => return self.run(&words),
-            Row::Entry(entry) => {
-                self.entries.push(entry)?;
-                self.lines.push(line)?;
-            }
+            Row::Entry(entry) => self.entries.push(line, entry)?,
             Row::Input(name) => {
                 self.inputs.push((name, Vec::new(self.alloc)))?;
                 self.has_line = false;
@@ -93,7 +84,7 @@ impl Case {
     fn run(&mut self, words: &[String]) -> Result<String, RowFault> {
         let mut tree = match self.tree.take() {
             Some(tree) => tree,
-            None => self.build()?,
+            None => self.entries.build()?,
         };
         let shelf = self.shelf()?;
         let schedule = mem::replace(&mut self.schedule, Schedule::new(self.alloc));
@@ -101,23 +92,6 @@ impl Case {
         let mut text = run_on(self.alloc, words, &mut tree, shelf, schedule)?;
         self.tree = Some(tree_behind(self.alloc, &mut text, tree, image)?);
         Ok(text)
-    }
-
-    // The tree of the entries.
-    fn build(&self) -> Result<MemTree, RowFault> {
-        match MemTree::new(self.alloc, &self.entries) {
-            Ok(tree) => Ok(tree),
-            Err(BuildFault::BadEntry(place)) => Err(self.bad_entry(place)),
-            Err(BuildFault::Memory) => Err(RowFault::Memory),
-        }
-    }
-
-    // The fault of the entry at this place.
-    fn bad_entry(&self, place: u64) -> RowFault {
-        match self.lines.get(place as usize) {
-            Some(line) => RowFault::BadAt(*line),
-            None => RowFault::Bad,
-        }
     }
 
     // The inputs, of which these reads fail.
@@ -128,5 +102,12 @@ impl Case {
         }
         let reads = Vec::from_slice(self.alloc, &self.schedule.reads)?;
         Ok(MemShelf::new(self.alloc, files, reads)?)
+    }
+}
+
+impl Table for Case {
+    fn take(&mut self, number: u64, line: &str) -> Result<String, RowFault> {
+        let row = read_row(self.alloc, line)?;
+        self.take_row(number, row)
     }
 }

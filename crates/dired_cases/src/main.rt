@@ -5,64 +5,16 @@
 #![tactic(auto)]
 
 mod case;
-mod entry;
-mod faults;
-mod fields;
-mod listed;
 mod report;
 mod row;
 mod running;
 mod schedule;
 
 use case::Case;
-use faults::{RowFault, TableFault};
-use row::{Row, read_row};
-use std::alloc::Global;
-use std::io::{BufRead, BufReader};
+use case_tables::run_table;
 use std::process::ExitCode;
 
 fn main(rt: HostRuntime) -> ExitCode {
-    match run_table(&rt) {
-        Ok(()) => ExitCode::from(0),
-        Err(TableFault::BadLine(line)) => match println!(rt; "line {line} is not well formed") {
-            Ok(()) => ExitCode::from(1),
-            Err(_) => ExitCode::from(2),
-        },
-        Err(TableFault::Memory | TableFault::Outside) => ExitCode::from(2),
-    }
-}
-
-// Runs all cases, each as soon as it is read.
-fn run_table(rt: &HostRuntime) -> Result<(), TableFault> {
-    let alloc = rt.alloc();
-    let mut case = Case::new(alloc);
-    let mut number = 0u64;
-    for line in BufReader::new(alloc, rt.reader())?.lines(alloc) {
-        let line = line?;
-        number = number.saturating_add(1);
-        let text = take_line(alloc, &mut case, number, line.as_str())?;
-        if !text.is_empty() {
-            print!(rt; "{text}")?;
-        }
-    }
-    Ok(())
-}
-
-// Takes a line of the table, and answers what is printed behind it.
-fn take_line(
-    alloc: Global,
-    case: &mut Case,
-    number: u64,
-    line: &str,
-) -> Result<String, TableFault> {
-    let taken = match read_row(alloc, line) {
-        Ok(row) => case.take(number, row),
-        Err(fault) => Err(fault),
-    };
-    match taken {
-        Ok(text) => Ok(text),
-        Err(RowFault::Bad) => Err(TableFault::BadLine(number)),
-        Err(RowFault::BadAt(line)) => Err(TableFault::BadLine(line)),
-        Err(RowFault::Memory) => Err(TableFault::Memory),
-    }
+    let mut case = Case::new(rt.alloc());
+    run_table(&rt, &mut case)
 }

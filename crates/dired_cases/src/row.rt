@@ -1,10 +1,8 @@
 // The rows of a table.
-use crate::faults::RowFault;
-use crate::fields::{bytes_of, mode_of, number_of, path_of, text_of, time_of};
+use case_tables::{RowFault, bytes_of, entry_of, number_of, text_of};
 use dired_text::{Bytes, Text};
 use mem_tree::Entry;
 use std::alloc::Global;
-use tree_core::Node;
 
 /// What a row says.
 #[derive(Drop)]
@@ -50,7 +48,7 @@ pub fn read_row(alloc: Global, line: &str) -> Result<Row, RowFault> {
     }
     match fields.as_slice() {
         ["run", words @ ..] => words_of(alloc, words),
-        ["dir" | "link" | "file", ..] => entry_of(alloc, &fields),
+        ["dir" | "link" | "file", ..] => Ok(Row::Entry(entry_of(alloc, &fields)?)),
         ["case", name] => Ok(Row::Case(text_of(alloc, name)?)),
         ["input", name] => Ok(Row::Input(text_of(alloc, name)?)),
         fields => schedule_of(fields),
@@ -81,27 +79,4 @@ fn schedule_of(fields: &[&str]) -> Result<Row, RowFault> {
         }),
         _ => Err(RowFault::Bad),
     }
-}
-
-// An entry of the tree.
-fn entry_of(alloc: Global, fields: &[&str]) -> Result<Row, RowFault> {
-    let (node, time, path) = match fields {
-        ["dir", mode, time, path] => (Node::Dir(mode_of(mode)?), *time, *path),
-        ["link", time, path, target] => (Node::Link(text_of(alloc, target)?), *time, *path),
-        ["file", number, mode, time, path, bytes] => (
-            Node::File {
-                number: number_of(number)?,
-                bytes: Bytes::from_vec(bytes_of(alloc, bytes)?),
-                mode: mode_of(mode)?,
-            },
-            *time,
-            *path,
-        ),
-        _ => return Err(RowFault::Bad),
-    };
-    Ok(Row::Entry(Entry {
-        path: path_of(alloc, path)?,
-        node,
-        mtime: time_of(time)?,
-    }))
 }

@@ -2,10 +2,9 @@
 ghost use Rattle.std.specs.Prelude.{IsTrue};
 ghost use Rattle.tree_core.specs.History.{IsDurable};
 
-use crate::faults::RowFault;
-use crate::listed::push_tree;
 use crate::report::{STOPPED, push_held, push_pending, report_text};
 use crate::schedule::Schedule;
+use case_tables::{RowFault, push_tree};
 use dired_run::{Status, run};
 use dired_text::{MemShelf, MemSink, Shelf, Sink};
 use mem_tree::MemTree;
@@ -50,7 +49,7 @@ pub fn tree_behind(
         Some(number) => image_of(&tree, number)?,
     };
     tree.fail_looks(&[])?;
-    push_tree(alloc, text, &mut tree)?;
+    push_tree(alloc, text, &mut tree, None)?;
     push_pending(text, tree.images()?.len())?;
     Ok(tree)
 }

@@ -12,8 +12,6 @@ mod places;
 mod reading;
 mod sets;
 mod spelling;
-#[cfg(test)]
-mod tests;
 mod token;
 
 pub use ast::{Ast, groups};

@@ -11,8 +11,6 @@ mod numbers;
 mod ordering;
 mod reading;
 mod switches;
-#[cfg(test)]
-mod tests;
 mod writing;
 
 pub use dates::minute_of;

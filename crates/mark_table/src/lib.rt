@@ -7,8 +7,6 @@ mod mark_map;
 mod moving;
 mod numbers;
 mod table;
-#[cfg(test)]
-mod tests;
 mod version;
 
 pub use backups::excess_backups;

@@ -6,8 +6,6 @@ mod fault;
 mod reading;
 mod replacing;
 mod template;
-#[cfg(test)]
-mod tests;
 
 pub use fault::ToFault;
 pub use reading::read_to;

@@ -5,8 +5,6 @@ mod mark_laws;
 mod quoting;
 mod scanning;
 mod substituting;
-#[cfg(test)]
-mod tests;
 mod word_laws;
 
 pub use mark_laws::{marks_are_replaced, marks_stand_alone};

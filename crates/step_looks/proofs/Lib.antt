@@ -4,3 +4,4 @@ pub mod UndoLemmas
 pub mod TellLemmas
 pub mod RedoLemmas
 pub mod StrictLemmas
+pub mod LeftLemmas

@@ -82,7 +82,7 @@ module _ (marker : List ℕ) (own : IsOwn marker) where
   can_bare : (s : Step) (t : FileTree) → IsStep s → CanDo (undo_of s) (bare plan marker t) → CanDo (undo_of s) t
   can_bare s t lawful can = undo_stood marker s t own lawful (undo_stood plan s (without (staged marker) t) own-plan lawful can)
 
-  after_bare : (s : Step) (t : FileTree) → IsStep s → IsAfter s (bare plan marker t) → IsAfter s t
+  pub after_bare : (s : Step) (t : FileTree) → IsStep s → IsAfter s (bare plan marker t) → IsAfter s t
   after_bare s t lawful behind =
       after_stood (staged marker) s t (apart_lawful marker s own lawful) (after_stood (staged plan) s (without (staged marker) t) (apart_lawful plan s own-plan lawful) behind)
 
@@ -90,16 +90,16 @@ module _ (marker : List ℕ) (own : IsOwn marker) where
   not_told : (s : Step) (u t : FileTree) → IsStep s → bare plan marker t ≡ u → IsBefore s u → can_go_back s t ≡ false
   not_told s u t lawful is before = no_back s t lawful (before_bare plan marker s t own-plan own lawful (subst (IsBefore s) (sym is) before))
 
-  told : (s : Step) (u t : FileTree) → IsStep s → bare plan marker t ≡ u → IsAfter s u → CanDo (undo_of s) u → can_go_back s t ≡ true
+  pub told : (s : Step) (u t : FileTree) → IsStep s → bare plan marker t ≡ u → IsAfter s u → CanDo (undo_of s) u → can_go_back s t ≡ true
   told s u t lawful is behind can =
       back_tests s t (after_back s t (after_bare s t lawful (subst (IsAfter s) (sym is) behind)) (can_bare s t lawful (subst (CanDo (undo_of s)) (sym is) can)))
 
   -- ---- these undone, b is left of u
-  record Undid (l : List Step) (t b : FileTree) : Type 0 where
+  pub record Undid (l : List Step) (t b : FileTree) : Type 0 where
     pub tree : IsTree (undone l t)
     pub is : bare plan marker (undone l t) ≡ b
 
-  undid : (l : List Step) (t b : FileTree) → IsTree t → IsTree b → Free l b → bare plan marker t ≡ after l b → Undid l t b
+  pub undid : (l : List Step) (t b : FileTree) → IsTree t → IsTree b → Free l b → bare plan marker t ≡ after l b → Undid l t b
   undid [] t b tree tree_b free is = record { tree = tree; is = is }
   undid (x ∷ l) t b tree tree_b free is =
       let more = undid l t (step_done x b) tree (tree_step x b tree_b free.0 free.1) (free_next x l b tree_b free) is in
@@ -132,7 +132,7 @@ module _ (marker : List ℕ) (own : IsOwn marker) where
       ap (λ b. and_where b s (to_undo g t)) yes_is ∙ ap (λ (l : List Step). s ∷ l) later
 
   -- a step of the group that was done can be undone, whatever others were done
-  can_taken : (s : Step) (g : List Step) (a u : FileTree) → Joins s g a → ComesBySome g (step_done s a) u → CanDo (undo_of s) u
+  pub can_taken : (s : Step) (g : List Step) (a u : FileTree) → Joins s g a → ComesBySome g (step_done s a) u → CanDo (undo_of s) u
   can_taken s g a u j taken =
       let w = without_step s g a u j taken in
       subst (CanDo (undo_of s)) (sym w.is) (can_undo s w.from (tree_joins s g a w.from j w.comes) j.lawful (stays_before s g a w.from j w.comes))
@@ -145,14 +145,14 @@ module _ (marker : List ℕ) (own : IsOwn marker) where
       let j = joins s g a tree_a free in
       ap (λ b. b || any_goes_back g t) (told s u t free.0 is (stays_after s g a u j taken) (can_taken s g a u j taken))
 
-  tells : (g : List Step) (a u t : FileTree) → IsTree t → IsTree a → Free g a → (some : ComesBySome g a u) → bare plan marker t ≡ u → TellsDone g a u t some
+  pub tells : (g : List Step) (a u t : FileTree) → IsTree t → IsTree a → Free g a → (some : ComesBySome g a u) → bare plan marker t ≡ u → TellsDone g a u t some
   tells g a u t tree tree_a free some is = record { undo = told_undo g a u t tree tree_a free some is; any = told_any g a u t tree_a free some is }
 
-own_marker : (marker : List ℕ) → IsMarker marker → IsOwn marker
+pub own_marker : (marker : List ℕ) → IsMarker marker → IsOwn marker
 own_marker marker named = ⊎_elim (λ e. subst IsOwn (sym e) (own-at named.0)) (λ e. subst IsOwn (sym e) (own-back named.0)) named.1
 
 module _ (steps : List Step) (old new : FileTree) (fresh : List Node) (leads : Leads steps old new fresh) (paths : AllByRecursion HasPaths steps) where
-  all_led : Led steps old new fresh
+  pub all_led : Led steps old new fresh
   all_led = led steps old new fresh leads paths
 
   pub looks_tell : (m : ℕ) → m ≤ length steps → (marker : List ℕ) (u t : FileTree) (some : ComesBySome (to_next_cut m (groups steps)) (at_place steps old fresh m) u) → IsBare marker u t
@@ -160,7 +160,7 @@ module _ (steps : List Step) (old new : FileTree) (fresh : List Node) (leads : L
   looks_tell m le marker u t some b =
       tells marker (own_marker marker b.marker_named) (to_next_cut m (groups steps)) (at_place steps old fresh m) u t b.tree (entries_at steps old new fresh all_led m).tree (free_at steps old new fresh all_led m le) some b.is
 
-  free_cut : (k m : ℕ) → m ≤ length steps → m ≡ k + length (from_last_cut m (groups steps)) → Free (from_last_cut m (groups steps)) (at_place steps old fresh k)
+  pub free_cut : (k m : ℕ) → m ≤ length steps → m ≡ k + length (from_last_cut m (groups steps)) → Free (from_last_cut m (groups steps)) (at_place steps old fresh k)
   free_cut k zero le is = subst (λ l. Free l (at_place steps old fresh k)) (sym (from_last_cut-zero (groups steps))) tt
   free_cut k (suc m) le is = (cut_at steps old new fresh all_led k (suc m) (omega arith) le is).back.free
 

@@ -16,3 +16,9 @@ to_undo_strictly (s ∷ earlier) t = by_look (look_back_of s t) (to_undo_strictl
 abbrev pub strange_back : ℕ → List Step → FileTree → Option ℕ
 strange_back from [] t = None
 strange_back from (s ∷ earlier) t = by_look (look_back_of s t) (strange_back from earlier t) (strange_back from earlier (done (undo_of s) 0 t)) (Some (from + length earlier))
+
+-- the number of the first of these, which are numbered from k on, of which a look tells neither that it can be undone nor that it is
+-- still to be done
+abbrev pub strange_look : ℕ → List Step → FileTree → Option ℕ
+strange_look k [] t = None
+strange_look k (s ∷ steps) t = by_look (look_back_of s t) (strange_look (k + 1) steps t) (strange_look (k + 1) steps t) (Some k)

@@ -1,5 +1,11 @@
 // Laws over the definitions alone.
-ghost use Rattle.step_looks.specs.Laws.{LooksTellOnTheWay, LooksTellOnTheWayBack, TestsAreRight};
+ghost use Rattle.step_looks.specs.Laws.{
+  LooksTellOnTheWay,
+  LooksTellOnTheWayBack,
+  NoneIsStrangeOnTheWay,
+  NoneIsStrangeOnTheWayBack,
+  TestsAreRight,
+};
 
 /// Each test of a look holds exactly where what it tests does.
 pub fn tests_are_right()
@@ -11,4 +17,11 @@ pub fn tests_are_right()
 pub fn looks_tell_what_was_done()
     ensures on_the_way { LooksTellOnTheWay }
     ensures on_the_way_back { LooksTellOnTheWayBack }
+{}
+
+/// In such a tree a look tells of each step of the group whether it was done, and none is strange: those that weren't are done, and
+/// those that were are undone. So it is on the way and on the way back.
+pub fn looks_tell_what_is_left()
+    ensures on_the_way { NoneIsStrangeOnTheWay }
+    ensures on_the_way_back { NoneIsStrangeOnTheWayBack }
 {}

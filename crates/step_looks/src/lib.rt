@@ -7,7 +7,7 @@ mod parent_paths;
 mod redoing;
 mod undoing;
 
-pub use laws::{looks_tell_what_was_done, tests_are_right};
+pub use laws::{looks_tell_what_is_left, looks_tell_what_was_done, tests_are_right};
 pub use looking::{Seen, look, look_back};
 pub use parent_paths::{Parents, parents_of};
 pub use redoing::redo;

@@ -9,8 +9,6 @@ mod laws;
 mod line;
 mod reading;
 mod splitting;
-#[cfg(test)]
-mod tests;
 mod typed;
 
 pub use editing::{Edited, edits};

@@ -1,0 +1,13 @@
+pub mod HeldLemmas
+pub mod PreparedLemmas
+pub mod WayBackLemmas
+pub mod RestLemmas
+pub mod EndLemmas
+pub mod EarlyLemmas
+pub mod StagingLemmas
+pub mod GroupLemmas
+pub mod MarkedLemmas
+pub mod BackRunLemmas
+pub mod CommitLemmas
+pub mod PromiseLemmas
+pub mod StandLemmas

@@ -1,0 +1,80 @@
+-- What a commit takes with it fits each tree that the check stands for.
+use Rattle.std.proofs.Common.{◌≡◌, ℕ, ◌≤◌, Bool, List, length, sym, ◌∙◌, ap, subst, Result, Ok, Err, IfOk}
+use Rattle.std.specs.List.{AllByRecursion}
+use Rattle.dired_text.specs.Paths.{Names}
+use Rattle.commit_journal.specs.declared.version.Version.TheVariants.{Two}
+use Rattle.commit_journal.specs.Grammar.{IsJournalOf}
+use Rattle.commit_journal.specs.Spelling.{CanEncode, journal_text}
+use Rattle.commit_plan.specs.Promises.{IsOldTree}
+use Rattle.commit_plan.proofs.PlanLemmas.{plan_there, planned}
+use Rattle.commit_run.specs.HeldFrom.{kinds_from}
+use Rattle.commit_run.specs.Preparing.{FitsTrees}
+use Rattle.commit_run.specs.declared.prepared.Prepared.{Prepared}
+use Rattle.commit_run.proofs.HeldLemmas.{kinds_are}
+use Rattle.commit_states.specs.declared.held.Held.{Held}
+use Rattle.commit_states.specs.Fits.{Fits}
+use Rattle.commit_states.specs.Interrupted.{IsWritten, max_journal_bytes}
+use Rattle.commit_steps.specs.declared.step.Step.{Step}
+use Rattle.edit_check.specs.declared.checked.Checked.{Checked}
+use Rattle.edit_check.specs.StandFor.{CanBeMadeWhereItStands, IsChecked, ListedWhereItStands, changes_in, confirmed_in, found_in}
+use Rattle.edit_rules.specs.Plans.{victims_of}
+use Rattle.edit_words.specs.declared.row.Row.{Row}
+use Rattle.edit_words.specs.Edited.{asked_fresh, edited}
+use Rattle.edit_words.specs.Rows.{rows}
+use Rattle.edit_words.specs.Sight.{sight_of}
+use Rattle.plan_fits.specs.HeldKinds.{held_of, numbered}
+use Rattle.plan_fits.specs.Laws.{AreBelow, HasText, made_for}
+use Rattle.plan_fits.proofs.FitLemmas.{plan_fits}
+use Rattle.plan_journals.proofs.Fits.{fits}
+use Rattle.plan_laws.specs.Laws.{HaveNames}
+use Rattle.plan_moves.specs.Plan.{IsPlan}
+use Rattle.tree_core.specs.declared.changes.Fresh.{Fresh}
+use Rattle.tree_core.specs.FileTree.{FileTree}
+
+-- ---- the journal
+
+short_enough : (n : ℕ) → n ≤ 1_073_741_824 → n ≤ max_journal_bytes
+unfolding max_journal_bytes
+short_enough n h = h
+
+-- ---- in a tree
+
+module _ (checked : Checked) (can : CanBeMadeWhereItStands checked) (listed : ListedWhereItStands checked) (is : IsChecked checked) (steps : List Step)
+    (plan : IsPlan (found_in checked) (rows (changes_in checked)) steps) where
+  abbrev rs : List Row
+  rs = rows (changes_in checked)
+
+  written : (journal : List ℕ) → IsJournalOf Two steps journal → journal ≡ journal_text Two steps → IsWritten steps journal
+  written journal spelled text = record {
+    journal = spelled;
+    short = short_enough (length journal) (subst (λ (b : List ℕ). length b ≤ 1_073_741_824) (sym text) (fits (found_in checked) (confirmed_in checked) (changes_in checked) steps is.asked is.taken plan).short);
+  }
+
+  held_there : (t : FileTree) → IsOldTree checked t → numbered 0 (kinds_from (victims_of (found_in checked) rs) rs) ≡ held_of (sight_of t) rs
+  held_there t old =
+      ap (λ (vs : List (ℕ × Names)). numbered 0 (kinds_from vs rs)) (listed t old.found).victims
+      ∙ ap (λ (l : List (Names × Bool)). numbered 0 l) (kinds_are (sight_of t) rs is.asked.lines)
+
+  pub fits_there : (fresh : List Fresh) (journal : List ℕ) (held : List Held) → fresh ≡ asked_fresh (changes_in checked) → IsJournalOf Two steps journal → journal ≡ journal_text Two steps
+      → held ≡ numbered 0 (kinds_from (victims_of (found_in checked) rs) rs) → HaveNames rs → AllByRecursion HasText fresh → CanEncode steps
+      → (t : FileTree) (next : ℕ) → IsOldTree checked t → AreBelow t next
+      → Fits steps fresh journal held (edited t rs (made_for t (changes_in checked) next)) t next
+  fits_there fresh journal held asked spelled text put_aside names texts encodes t next old below =
+      let one = plan_fits t (changes_in checked) steps next (planned checked can listed is.asked steps plan t old) names
+      (subst (AllByRecursion HasText) asked texts) below (plan_there checked can listed is.asked steps plan t old.found) journal encodes.few (written journal spelled text) in
+      let two = subst (λ (fs : List Fresh). Fits steps fs journal (held_of (sight_of t) rs) (edited t rs (made_for t (changes_in checked) next)) t next) (sym asked) one in
+      subst (λ (hs : List Held). Fits steps fresh journal hs (edited t rs (made_for t (changes_in checked) next)) t next) (sym (put_aside ∙ held_there t old)) two
+
+-- what has these parts
+pub fits_result : {E : Type 0} (checked : Checked) (result : Result Prepared E) (steps : List Step) (fresh : List Fresh) (held : List Held) (journal : List ℕ)
+    → IfOk result (λ p. p.steps ≡ steps) → IfOk result (λ p. p.fresh.items ≡ fresh) → IfOk result (λ p. p.held.items ≡ held) → IfOk result (λ p. p.journal ≡ journal)
+    → ((t : FileTree) (next : ℕ) → IsOldTree checked t → AreBelow t next
+    → Fits steps fresh journal held (edited t (rows (changes_in checked)) (made_for t (changes_in checked) next)) t next)
+    → IfOk result (λ p. FitsTrees checked p)
+fits_result checked (Ok p) steps fresh held journal steps_are fresh_are held_are journal_is fit = λ t next old below.
+    let new = edited t (rows (changes_in checked)) (made_for t (changes_in checked) next) in
+    let one = subst (λ (x : List Step). Fits x fresh journal held new t next) (sym steps_are) (fit t next old below) in
+    let two = subst (λ (x : List Fresh). Fits p.steps x journal held new t next) (sym fresh_are) one in
+    let three = subst (λ (x : List Held). Fits p.steps p.fresh.items journal x new t next) (sym held_are) two in
+    subst (λ (x : List ℕ). Fits p.steps p.fresh.items x p.held.items new t next) (sym journal_is) three
+fits_result checked (Err e) steps fresh held journal steps_are fresh_are held_are journal_is fit = tt

@@ -1,0 +1,9 @@
+pub mod HeldFrom
+pub mod Preparing
+pub mod WayBack
+pub mod BeforePlan
+pub mod Ends
+pub mod Begun
+pub mod Sealing
+pub mod Commits
+pub mod Faults

@@ -1,0 +1,47 @@
+"""Examples of settings: the text, what is answered to it, and rows that ask its rules. The answers follow from the rules by hand: faults
+are tested by kind (keys, types, regexps), each over the keys in the order of their bytes and then over the guesses."""
+
+GUESSES = '[[guess]]\nregexp = "\\\\.c$"\ncommand = "cc"\n[[guess]]\nregexp = "\\\\.[ch]$"\ncommand = "wc"\n'
+
+SETTINGS = [
+    ("", "kept 2 2", [("omitted a.o plain", "no"), ("guess a.c", "none")]),
+    ('omit_extensions = [".o", ""]', "kept 2 2", [
+        ("omitted a.o plain", "yes"), ("omitted a.c plain", "no"), ("omitted .o plain", "yes"), ("omitted o plain", "no"),
+        ("omitted a.o marked", "no")]),
+    ('omit_regexp = "^#\\\\|~$"', "kept 2 2", [
+        ("omitted \\x23a plain", "yes"), ("omitted a~ plain", "yes"), ("omitted a~b plain", "no"), ("omitted a~ marked", "no")]),
+    ('omit_regexp = "a"\nomit_extensions = ["b"]', "kept 2 2", [("omitted xax plain", "yes"), ("omitted xb plain", "yes"), ("omitted bx plain", "no")]),
+    ("kept_old = 0\nkept_new = 1000000", "kept 0 1000000", []),
+    ("kept_new = 7", "kept 2 7", []),
+    (GUESSES, "kept 2 2", [
+        ("guess a.c", "cc"), ("guess a.c b.c", "cc"), ("guess a.c b.h", "wc"), ("guess a.h", "wc"), ("guess a.c b.o", "none"), ("guess a.o", "none")]),
+    # each fault
+    ("a", "refused: no TOML", []),
+    ("a = 1\na = 2", "refused: no TOML", []),
+    ("depth = 1", "refused: unknown key depth", []),
+    ("kept_old = 1000001", "refused: wrong type kept_old", []),
+    ("kept_old = -1", "refused: wrong type kept_old", []),
+    ("kept_new = 1.0", "refused: wrong type kept_new", []),
+    ('omit_extensions = "o"', "refused: wrong type omit_extensions", []),
+    ("omit_extensions = [1]", "refused: wrong type omit_extensions", []),
+    ("omit_regexp = []", "refused: wrong type omit_regexp", []),
+    ("[omit_regexp]", "refused: wrong type omit_regexp", []),
+    ("guess = 1", "refused: wrong type guess", []),
+    ("[guess]", "refused: wrong type guess", []),
+    ("guess = [1]", "refused: wrong type guess", []),
+    ('guess = [{regexp = "a"}]', "refused: wrong type guess.command", []),
+    ('guess = [{command = "a"}]', "refused: wrong type guess.regexp", []),
+    ('guess = [{regexp = "a", command = 1}]', "refused: wrong type guess.command", []),
+    ('guess = [{regexp = "a", command = "b", c = 1}]', "refused: unknown key guess.c", []),
+    ('omit_regexp = "\\\\("', "refused: bad regexp omit_regexp, unclosed at byte 0", []),
+    ('guess = [{regexp = "[a", command = "b"}]', "refused: bad regexp guess.regexp, unclosed at byte 0", []),
+    # the first of two faults
+    ("kept_old = -1\nz = 1", "refused: unknown key z", []),
+    ("z = 1\na = 1", "refused: unknown key a", []),
+    ('a = 1\nguess = [{regexp = "a", command = "b", c = 1}]', "refused: unknown key a", []),
+    ("omit_regexp = 1\nkept_old = -1", "refused: wrong type kept_old", []),
+    ('guess = [{regexp = 1, command = "b"}]\nomit_regexp = 1', "refused: wrong type omit_regexp", []),
+    ('omit_regexp = "\\\\("\nkept_old = -1', "refused: wrong type kept_old", []),
+    ('guess = [{regexp = "[a", command = "b"}, 1]', "refused: wrong type guess", []),
+    ('guess = [{regexp = "[a", command = "b"}]\nomit_regexp = "b\\\\("', "refused: bad regexp omit_regexp, unclosed at byte 1", []),
+]
