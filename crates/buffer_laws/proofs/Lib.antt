@@ -1,0 +1,10 @@
+pub mod TextLemmas
+pub mod HeaderLemmas
+pub mod RowLemmas
+pub mod ReadingLemmas
+pub mod WritingLemmas
+pub mod SliceLemmas
+pub mod ChangeLemmas
+pub mod EditedLemmas
+pub mod LineLemmas
+pub mod DifferenceLemmas
