@@ -1,0 +1,11 @@
+pub mod NumberLemmas
+pub mod CourseLemmas
+pub mod ForwardLemmas
+pub mod BackwardLemmas
+pub mod EntryLemmas
+pub mod FreshLemmas
+pub mod SealingLemmas
+pub mod RevokingLemmas
+pub mod HomeLemmas
+pub mod CloseLemmas
+pub mod FollowLemmas

@@ -1,0 +1,5 @@
+pub mod Numbers
+pub mod Names
+pub mod Tests
+pub mod Entries
+pub mod Laws
