@@ -174,6 +174,10 @@ def marked(word, rest):
     return (word + " " + rest).rstrip()
 
 
+def outside():
+    yield from given.OUTSIDE
+
+
 def settings():
     for text, answer, rest in SETTINGS:
         yield row("settings", text), answer
@@ -187,7 +191,7 @@ def main():
         return 2
     with open(sys.argv[1], "w") as asks, open(sys.argv[2], "w") as comes:
         asks.write("# Made by scripts/cases/generate_texts.py. docs/CASES.md has the form.\n\n")
-        for part in (names, lines, buffers, regexps, commands, journals, marks, settings):
+        for part in (names, lines, buffers, regexps, commands, journals, marks, outside, settings):
             asks.write("# %s\n" % part.__name__)
             for asked, answer in part():
                 asks.write(asked + "\n")

@@ -501,3 +501,11 @@ EDITS = [
      "  d:\n  total 1\n  drwxr-xr-x 1 u g 0 1970-01-01 00:00 \n",
      "line 4 a to b mode 7745 line 5 l to m target a\\x20->\\x20b emptied d/e"),
 ]
+
+# calls of objects in memory, of which some fail, and what they answer and keep
+OUTSIDE = [
+    ("shelf 1,5 a=one,b=\\e,a=two a:3 b:9 b:0 a:2 c:9 a:3 a:3", "read one failed read \\e too-large absent failed read one"),
+    ("sink 2 ab \\e c de", "taken taken failed taken short 0 abde"),
+    ("shell 1 3 ls rm\\x20x \\e", "3 failed 3 ran ls \\e"),
+    ("patterns 1 a* b ( b", "a* refused refused b"),
+]

@@ -9,8 +9,6 @@ mod paths;
 mod reading;
 mod sharing;
 mod steps;
-#[cfg(test)]
-mod tests;
 mod version;
 
 pub use decoding::decode;

@@ -15,12 +15,10 @@ mod shelf;
 mod shell;
 mod sink;
 mod splitting;
-#[cfg(test)]
-mod tests;
 mod text;
 
 pub use escaping::{EscapeError, escape, escapes_come_back, unescape};
-pub use mem_patterns::MemPatterns;
+pub use mem_patterns::{MemPatterns, read_pattern};
 pub use mem_shelf::MemShelf;
 pub use mem_shell::MemShell;
 pub use mem_sink::MemSink;

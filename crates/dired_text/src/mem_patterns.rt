@@ -59,8 +59,11 @@ impl Patterns for MemPatterns {
     }
 }
 
-// The pattern that `regex` reads from the text.
-fn read_pattern(alloc: Global, text: &str) -> Result<Regex, PatternsError>
+/// The pattern that `regex` reads from the text, under its default configuration.
+///
+/// # Errors
+/// `Refused` where `regex` refuses the text for another cause than memory, and `Memory`.
+pub fn read_pattern(alloc: Global, text: &str) -> Result<Regex, PatternsError>
     ensures { BuildsAs text.now result }
 {
     match Regex::new(alloc, text) {

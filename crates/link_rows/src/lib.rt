@@ -4,8 +4,6 @@
 mod laws;
 mod links;
 mod rows;
-#[cfg(test)]
-mod tests;
 
 pub use laws::{
     a_list_is_of_values, a_row_stands_in_one_list, an_unlinked_row_keeps_its_neighbours,

@@ -1,5 +1,5 @@
 -- Which names may stand in the staging directory, and which one is foreign.
-use Rattle.std.specs.Prelude.{ℕ, ◌+◌, ◌==◌, Bool, true, false, ◌&&◌, ◌||◌, not, List, drop, position, find, nat_lt, Option, Some, None, is_some, is_none, if◌then◌else◌}
+use Rattle.std.specs.Prelude.{◌≡◌, ◌×◌, Result, Ok, Err, ℕ, ◌+◌, ◌==◌, Bool, true, false, ◌&&◌, ◌||◌, not, List, drop, position, find, nat_lt, Option, Some, None, is_some, is_none, if◌then◌else◌}
 use Rattle.std.specs.Option.{option_map, option_or}
 use Rattle.tree_core.specs.declared.node.Kind.{Kind}
 use Rattle.tree_core.specs.declared.node.Kind.TheVariants as kind
@@ -151,6 +151,11 @@ unmarked fs = if wants_marker (journal_of fs) && is_none (marker_of fs) then pos
 -- the place of the foreign one that is told
 unfoldable pub foreign_place : List found.Found → Option ℕ
 foreign_place fs = option_or (of_two_journals fs) (option_or (unfit fs) (option_or (second_marker fs) (unmarked fs)))
+
+-- what stands is told exactly where nothing is foreign, and else the place of the first foreign name
+abbrev pub IsSortedOut : List found.Found → Result standing.Standing ℕ → Type 0
+IsSortedOut fs (Ok s) = (foreign_place fs ≡ None) × (s ≡ standing_of fs)
+IsSortedOut fs (Err place) = foreign_place fs ≡ Some place
 
 -- A marker counts more steps than there are.
 abbrev pub counts_more : Option marker.Marker → ℕ → Bool

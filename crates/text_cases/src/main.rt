@@ -10,6 +10,7 @@ mod journals;
 mod lines;
 mod marks;
 mod names;
+mod outside;
 mod regexps;
 mod settings;
 mod shell;

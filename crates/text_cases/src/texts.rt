@@ -1,5 +1,5 @@
 // The rows of a table, by what they ask for.
-use crate::{buffers, journals, lines, marks, names, regexps, settings, shell};
+use crate::{buffers, journals, lines, marks, names, outside, regexps, settings, shell};
 use case_tables::{RowFault, Table};
 use dired_text::{Memory, Text};
 use mark_table::Marks;
@@ -39,6 +39,7 @@ impl Texts {
             ["quote" | "commands", ..] => shell::answer(self.alloc, fields),
             ["edits", before, after] => buffers::answer(self.alloc, before, after),
             ["journal", bytes] => journals::answer(self.alloc, bytes),
+            ["shelf" | "sink" | "shell" | "patterns", ..] => outside::answer(self.alloc, fields),
             ["settings", text] => settings::read(self.alloc, text, &mut self.rules),
             ["omitted" | "guess", ..] => settings::answer(self.alloc, &self.rules, fields),
             ["backups", ..] => marks::backups(self.alloc, fields),
