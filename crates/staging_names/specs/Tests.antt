@@ -1,5 +1,5 @@
 -- Which names may stand in the staging directory, and which one is foreign.
-use Rattle.std.specs.Prelude.{◌≡◌, ◌×◌, Result, Ok, Err, ℕ, ◌+◌, ◌==◌, Bool, true, false, ◌&&◌, ◌||◌, not, List, drop, position, find, nat_lt, Option, Some, None, is_some, is_none, if◌then◌else◌}
+use Rattle.std.specs.Prelude.{◌≡◌, Result, Ok, Err, ℕ, ◌+◌, ◌==◌, Bool, true, false, ◌&&◌, ◌||◌, not, List, drop, position, find, nat_lt, Option, Some, None, is_some, is_none, if◌then◌else◌}
 use Rattle.std.specs.Option.{option_map, option_or}
 use Rattle.tree_core.specs.declared.node.Kind.{Kind}
 use Rattle.tree_core.specs.declared.node.Kind.TheVariants as kind
