@@ -1,14 +1,17 @@
 # Needs the Rattle kit's `rt` on the PATH.
+VERSION = 0.1.0
 PREFIX ?= /usr/local
+INSTALLED = $(DESTDIR)$(PREFIX)
 PROGRAM = crates/dired_cli/out/dired_cli
 
 CASES = crates/dired_cases/out/dired_cases
+PLANS = crates/commit_cases/out/commit_cases
 COUNT ?= 10000
 SEED ?=
 
-.PHONY: demo test install bench fuzz
+.PHONY: demo test install uninstall deb bench fuzz crash
 
-# Proves and builds the program, and carries out a real edit in a throw-away folder.
+# Proves and builds the program, and shows in a throw-away folder an edit, the same edit killed in the middle, and its recovery.
 demo: $(PROGRAM)
 	bash scripts/demo.sh $(PROGRAM)
 
@@ -17,19 +20,44 @@ test:
 	bash .ci/run
 
 install: $(PROGRAM)
-	install -D -m 755 $(PROGRAM) $(DESTDIR)$(PREFIX)/bin/dired
+	install -D -m 755 $(PROGRAM) $(INSTALLED)/bin/dired
+	install -D -m 755 scripts/wdired $(INSTALLED)/bin/wdired
+	install -D -m 644 man/dired.1 $(INSTALLED)/share/man/man1/dired.1
+	install -D -m 644 man/wdired.1 $(INSTALLED)/share/man/man1/wdired.1
+	install -D -m 644 completions/dired.bash $(INSTALLED)/share/bash-completion/completions/dired
+	ln -sf dired $(INSTALLED)/share/bash-completion/completions/wdired
+	install -D -m 644 completions/_dired $(INSTALLED)/share/zsh/site-functions/_dired
+	install -D -m 644 completions/dired.fish $(INSTALLED)/share/fish/vendor_completions.d/dired.fish
+
+uninstall:
+	rm -f $(INSTALLED)/bin/dired $(INSTALLED)/bin/wdired
+	rm -f $(INSTALLED)/share/man/man1/dired.1 $(INSTALLED)/share/man/man1/wdired.1
+	rm -f $(INSTALLED)/share/bash-completion/completions/dired $(INSTALLED)/share/bash-completion/completions/wdired
+	rm -f $(INSTALLED)/share/zsh/site-functions/_dired $(INSTALLED)/share/fish/vendor_completions.d/dired.fish
+
+# A package for Debian, dired_$(VERSION)_amd64.deb, of what `install` puts in place.
+deb: $(PROGRAM)
+	bash scripts/deb.sh $(VERSION)
 
 # Cases that are drawn, and compared with a model of the rules.
-fuzz: $(CASES)
+fuzz: $(CASES) $(PLANS)
 	bash scripts/fuzz-cases.sh generate.py $(CASES) $(COUNT) $(SEED)
+	bash scripts/fuzz-cases.sh generate_plans.py $(PLANS) $(COUNT) $(SEED)
+	bash scripts/fuzz-cases.sh generate_commits.py $(PLANS) $(COUNT) $(SEED)
 
-bench: $(PROGRAM)
+# The program is killed at each of its changing calls on real folders, and each of them fails; what stands is recovered.
+crash: $(PROGRAM)
+	python3 scripts/crash.py $(PROGRAM) --edits 30
+
+bench: $(PROGRAM) $(PLANS)
 	bash bench/one-name.sh $(PROGRAM)
 	bash bench/lines.sh $(PROGRAM)
 	bash bench/listing.sh $(PROGRAM)
 	bash bench/edits.sh $(PROGRAM)
 	bash bench/check.sh $(PROGRAM)
+	bash bench/commits.sh $(PROGRAM)
 	bash bench/sync.sh
+	bash bench/plans.sh $(PLANS)
 
 # `rt run` proves, builds and runs; without words the program ends with status 1, so what counts is that it was built.
 $(PROGRAM): crates.txt $(wildcard crates/*/src/*.rt crates/*/specs/*.antt crates/*/proofs/*.antt)
@@ -39,7 +67,7 @@ $(PROGRAM): crates.txt $(wildcard crates/*/src/*.rt crates/*/specs/*.antt crates
 	rm -f crates/dired_cli/out.log
 
 # A program of cases ends well on an empty table.
-$(CASES): crates.txt $(wildcard crates/*/src/*.rt crates/*/specs/*.antt crates/*/proofs/*.antt)
+$(CASES) $(PLANS): crates.txt $(wildcard crates/*/src/*.rt crates/*/specs/*.antt crates/*/proofs/*.antt)
 	rm -f $@
 	cd $(dir $(@D)) && { rt run < /dev/null > out.log 2>&1 || true; }
 	test -x $@ || { tail -20 $(dir $(@D))out.log; exit 1; }

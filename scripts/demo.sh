@@ -1,17 +1,48 @@
 #!/usr/bin/env bash
-# Carries out a real edit in a throw-away folder, and shows the listing, the edit, and the folder before and after.
+# In a throw-away folder: an edit of many names, the same edit killed in the middle, and its recovery forward and back.
 # demo.sh PROGRAM
 set -eu
 program=$(readlink -f "$1")
 work=$(mktemp -d)
 trap 'rm -rf "$work"' EXIT
-mkdir "$work/photos"
-printf 'a beach\n' > "$work/photos/img_0001.jpg"
-printf 'a hill\n' > "$work/photos/img_0002.jpg"
-(cd "$work/photos" && "$program" list) > "$work/before"
-sed 's/img_0001\.jpg$/the beach.jpg/' "$work/before" > "$work/after"
-printf -- '--- the listing\n'; cat "$work/before"
-printf -- '--- the edit\n'; diff "$work/before" "$work/after" || true
-printf -- '--- the folder before\n'; ls -li "$work/photos"
-printf -- '--- dired commit\n'; (cd "$work/photos" && "$program" commit ../before ../after)
-printf -- '--- the folder after\n'; ls -li "$work/photos"
+
+# A folder of 60 photos, its listing, and an edit by which each two of them trade names and the last one moves.
+fresh() {
+    rm -rf "$work/photos"
+    mkdir "$work/photos"
+    for n in $(seq 101 160); do echo "picture $n" > "$work/photos/img_$n.jpg"; done
+    (cd "$work/photos" && "$program" list) > "$work/before"
+    awk '/img_1[0-9][0-9]/ { n = substr($0, length($0) - 6, 3) + 0
+            other = n % 2 ? n + 1 : n - 1
+            name = n == 160 ? "best/of/img_159.jpg" : "img_" other ".jpg"
+            $0 = substr($0, 1, length($0) - 11) name } { print }' "$work/before" > "$work/after"
+}
+
+# What stands under three of the names, and in the staging directory.
+shown() {
+    for name in img_101.jpg img_102.jpg best/of/img_159.jpg; do
+        [ ! -e "$work/photos/$name" ] || echo "$name: $(cat "$work/photos/$name")"
+    done
+    [ ! -e "$work/photos/.wdired-commit" ] || (cd "$work/photos" && ls -A .wdired-commit)
+}
+
+# Kills a commit behind its first steps.
+killed() {
+    (cd "$work/photos" && exec "$program" commit ../before ../after) > "$work/told" 2>&1 &
+    local commit=$!
+    until ls "$work"/photos/.wdired-commit/at-[1-9]* > "$work/markers" 2>&1; do
+        kill -0 "$commit" 2> "$work/gone" || { echo 'the commit ended before it could be killed'; exit 1; }
+    done
+    kill -9 "$commit"
+    wait "$commit" 2> "$work/gone" || true
+}
+
+fresh
+printf -- '--- two lines of 60, before and after\n'; sed -n '4,5p' "$work/before"; sed -n '4,5p' "$work/after"
+printf -- '--- dired commit\n'; (cd "$work/photos" && "$program" commit ../before ../after); shown
+fresh; killed
+printf -- '--- the same edit, killed in the middle\n'; shown
+printf -- '--- dired recover\n'; (cd "$work/photos" && "$program" recover); shown
+fresh; killed
+printf -- '--- and killed again\n'; shown
+printf -- '--- dired recover --back\n'; (cd "$work/photos" && "$program" recover --back); shown

@@ -57,6 +57,25 @@ fresh; mkdir "$work/tree/d"; : > "$work/tree/d/x"; (cd "$work/tree" && "$program
 sed 's/ x$/ n\\n\\\\\\015/' "$work/before" > "$work/after"; run 'an escaped name in a directory below' 0 "$done_one" commit ../before ../after
 [ -e "$work/tree/d/n"$'\n\\\r' ] || { failed=1; echo 'FAILED: an escaped name'; ls -b "$work/tree/d"; }
 
+# what done_one is, with other numbers
+counts() { printf 'renamed %s, retargeted %s, modes %s, replaced %s, made %s, flagged 0\n' "$@"; }
+nl=$'\n'
+fresh; sed '4s/ a$/ b/; 5s/ b$/ a/' "$work/before" > "$work/after"
+run 'two names change places' 0 "$(counts 2 0 0 0 0)$nl" commit ../before ../after
+[ "$(cat "$work/tree/b")" = first ] && [ "$(cat "$work/tree/a")" = second ] || { failed=1; echo 'FAILED: two names change places'; }
+fresh; sed 's/ a$/ b/' "$work/before" > "$work/after"
+run 'a name that is taken, confirmed' 0 "$(counts 1 0 0 1 0)$nl" commit ../before ../after b
+[ "$(ls -A "$work/tree")" = b ] && [ "$(cat "$work/tree/b")" = first ] || { failed=1; echo 'FAILED: a name that is taken'; }
+fresh; sed 's/ a$/ x\/y\/c/' "$work/before" > "$work/after"
+run 'directories to be made' 0 "$(counts 1 0 0 0 2)$nl" commit ../before ../after
+[ "$(cat "$work/tree/x/y/c")" = first ] || { failed=1; echo 'FAILED: directories to be made'; }
+fresh; sed '4s/ a$/ c/; 4s/^  -rw-r--r--/  -rw-r-----/' "$work/before" > "$work/after"
+run 'a mode edited besides' 0 "$(counts 1 0 1 0 0)$nl" commit ../before ../after
+[ "$(stat -c %a "$work/tree/c")" = 640 ] || { failed=1; echo 'FAILED: a mode edited besides'; }
+fresh; ln -s a "$work/tree/l"; (cd "$work/tree" && "$program" list > ../before)
+sed 's/ l -> a$/ l -> b/' "$work/before" > "$work/after"; run 'another target' 0 "$(counts 0 1 0 0 0)$nl" commit ../before ../after
+[ "$(readlink "$work/tree/l")" = b ] && [ ! -e "$work/tree/.wdired-commit" ] || { failed=1; echo 'FAILED: another target'; }
+
 fresh; before=$(shown); run 'no edit' 0 "$done_none" commit ../before ../after; unchanged 'no edit' "$before"
 fresh; printf '%s' "$(cat "$work/before")" > "$work/after"
 run 'AFTER without its last newline' 0 "$done_none" commit ../before ../after
@@ -75,15 +94,9 @@ run 'an AFTER that is no UTF-8' 8 $'dired: line 5: BadName\n' commit ../before .
 head -c 67108865 /dev/zero > "$work/large"
 run 'too large' 18 $'dired: too large: BufferBytes 67108865\n' commit ../large ../after
 rm "$work/large"
-sed 's/ b$/ d/; s/ a$/ c/' "$work/before" > "$work/after"
-run 'two edits' 23 $'dired: line 5: not built yet\n' commit ../before ../after
 sed 's/ a$/ b/' "$work/before" > "$work/after"
 run 'a name that is taken' 9 $'dired: line 4: b would be replaced\n' commit ../before ../after
 run 'a name that is taken, another one confirmed' 9 $'dired: line 4: b would be replaced\n' commit ../before ../after a
-run 'a name that is taken, confirmed' 23 $'dired: line 4: not built yet\n' commit ../before ../after b
-run 'a name that is taken, all confirmed' 23 $'dired: line 4: not built yet\n' commit --all ../before ../after
-sed 's/ a$/ x\/c/' "$work/before" > "$work/after"
-run 'a directory to be made' 23 $'dired: line 4: not built yet\n' commit ../before ../after
 sed 's/ a$/ .wdired-commit/' "$work/before" > "$work/after"
 run 'the name of the staging directory' 8 $'dired: line 4: Reserved\n' commit ../before ../after
 sed 's/ a$/ c/; s/ b$/ c/' "$work/before" > "$work/after"
@@ -92,8 +105,6 @@ sed 's/ a$/ b\/c/' "$work/before" > "$work/after"
 run 'a file as a directory' 8 $'dired: line 4: ParentNotDirectory b\n' commit ../before ../after
 sed 's/ a$/ c\/d\/a/; s/ b$/ c/' "$work/before" > "$work/after"
 run 'a directory to be made is taken' 8 $'dired: line 4: a directory to be made is taken by line 5\n' commit ../before ../after
-sed '4s/ a$/ c/; 4s/^  -rw-r--r--/  -rw-r-----/' "$work/before" > "$work/after"
-run 'a mode edited besides' 23 $'dired: line 4: not built yet\n' commit ../before ../after
 sed 's/ a$/ c/; s/ 1 / 2 /' "$work/before" > "$work/after"
 run 'a link count edited' 8 $'dired: line 4: Fixed\n' commit ../before ../after
 sed 's/^  -rw-r--r--/  -rw-r--r-?/' "$work/before" > "$work/after"

@@ -4,6 +4,8 @@ from program import Run, Schedule
 from table import Case, one_run
 from texts import resolve
 from trees import Tree
+from commits import PLAN, at, own
+from journals import journal
 import edits as rules
 import buffers
 
@@ -108,8 +110,8 @@ def every_kind_of_line():
     return [commit("line %d of every kind" % number, tree, before, changed(before, pair)) for number, pair in enumerate(names, 1)]
 
 
-def not_built():
-    """What is well formed and can't be done yet."""
+def together():
+    """Edits that are more than one new name: several at once, victims, directories to be made, modes and targets."""
     swap = (" a\n", " x\n"), (" b\n", " a\n"), (" x\n", " b\n")
     nested = files("a/x", "a")
     linked = Tree().add_link(("l",), "x").add_file(("m",))
@@ -359,17 +361,22 @@ def failing_looks():
     return cases
 
 
+# the changing calls of a commit of one new name
+COMMIT_CALLS = 18
+
+
 def failing_calls():
     """Each changing call fails in turn, done and not done; so do reads and writes."""
     before, after = printed(TWO), buffer("c", "b")
     cases = []
-    for call in range(4):
+    for call in range(COMMIT_CALLS + 1):
         for done in (False, True):
             cases.append(commit("changing call %d fails%s" % (call, ", done" if done else ""), TWO, before, after,
                                 changes={call: done}))
-            cases.append(commit("nothing to do, changing call %d fails%s" % (call, ", done" if done else ""), TWO, before, before,
-                                changes={call: done}))
-    cases.append(commit("two changing calls fail", TWO, before, after, changes={1: True, 2: False}))
+            if call < 2:
+                cases.append(commit("nothing to do, changing call %d fails%s" % (call, ", done" if done else ""), TWO, before, before,
+                                    changes={call: done}))
+        cases.append(commit("changing call %d fails, and another one" % call, TWO, before, after, changes={call: False, call + 2: False}))
     for read in range(3):
         cases.append(commit("read %d fails" % read, TWO, before, after, reads=[read]))
     cases.append(commit("the read of what isn't there fails", TWO, before, after, "commit B C", reads=[1]))
@@ -386,18 +393,79 @@ def stopped():
     before, after = printed(TWO).encode(), buffer("c", "b").encode()
     again = buffer("d", "b").encode()
     cases = []
-    for call, images, changes in ((0, 2, {}), (1, 4, {}), (2, 2, {}), (3, 2, {}), (1, 2, {1: False}), (1, 4, {1: True}),
-                                  (2, 4, {2: False}), (2, 2, {2: True})):
-        for image in range(images):
-            runs = [("commit B A".split(), Schedule(changes, stop=(call, image))), ("commit B A".split(), Schedule()),
-                    ("list".split(), Schedule())]
-            behind = "".join(", which fails%s" % (", done" if done else "") for done in changes.values())
+    for call, changes in [(call, {}) for call in range(COMMIT_CALLS)] + [(8, {7: False}), (8, {7: True}), (12, {11: False}), (12, {11: True})]:
+        stop = Run(TWO, {"B": before, "A": after}, Schedule(changes, stop=(call, 0)))
+        stop.run("commit B A".split())
+        for image in range(2 << len(stop.disk.pending)):
+            back = ["--back"] if image & 1 else []
+            runs = [("commit B A".split(), Schedule(changes, stop=(call, image))), (["recover"] + back, Schedule())]
+            if image == 0:
+                runs[1:1] = [("commit B A".split(), Schedule()), ("list".split(), Schedule())]
+            behind = "".join(", call %d fails%s" % (failed, ", done" if done else "") for failed, done in changes.items())
             cases.append(Case("stopped behind call %d%s, image %d" % (call, behind, image), TWO, {"B": before, "A": after}, runs))
-    runs = [("commit B A".split(), Schedule(changes={2: False})), ("commit A D".split(), Schedule()),
+    runs = [("commit B A".split(), Schedule(changes={7: False})), ("commit A D".split(), Schedule()),
             ("commit A D".split(), Schedule(looks=[0])), ("commit A D".split(), Schedule())]
     cases.append(Case("runs one after another", TWO, {"B": before, "A": after, "D": again}, runs))
     return cases
 
 
+# The journals of two files that trade names, of 97 bytes in version 2 and of 61 in version 1.
+SWAP = journal([("rename", ("a",), own("t0")), ("rename", ("b",), ("a",)), ("rename", own("t0"), ("b",))])
+SWAP_1 = (b"WDJ1\0\0\0\3R\0\1a\0\x11.wdired-commit/t0R\0\1b\0\1aR\0\x11.wdired-commit/t0\0\1b")
+
+
+def recoveries():
+    """What isn't of a commit is told and left; a recovery may fail and be called again."""
+    staged = lambda *entries, names="a b": tree_with(*[(".wdired-commit/" + name, data) for name, data in entries], names=names)
+    cases = [one_run("recover, %s" % name, tree, {}, words) for name, tree, words in (
+        ("nothing", TWO, "recover"), ("nothing, back", TWO, "recover --back"),
+        ("a word more", TWO, "recover a"), ("a flag twice", TWO, "recover --back --back"), ("a flag of one letter", TWO, "recover -b"),
+        ("a file at its place", files(".wdired-commit"), "recover"),
+        ("an empty directory", Tree().add_dir((".wdired-commit",)), "recover"),
+        ("a foreign name", staged(("x", b"")), "recover"), ("a foreign name that is escaped", staged(("x\n", b"")), "recover"),
+        ("no journal", staged(("at-0", b""), ("new", b"half")), "recover --back"),
+        ("two journals", staged(("done", b""), ("plan", b"")), "recover"),
+        ("no marker", staged(("plan", b"")), "recover"),
+        ("a journal that is none", staged(("at-0", b""), ("plan", b"none")), "recover"),
+        ("a sealed journal that is none", staged(("done", b"none")), "recover"))]
+    cases += [one_run("recover of a swap, %s" % name, tree, {}, words) for name, tree, words in (
+        ("two journals and a marker", staged(("plan", SWAP), ("done", SWAP), ("at-0", b"")), "recover"),
+        ("no marker", staged(("plan", SWAP)), "recover"), ("two markers", staged(("plan", SWAP), ("at-0", b""), ("at-1", b"")), "recover"),
+        ("a marker behind the end", staged(("plan", SWAP), ("at-4", b"")), "recover"),
+        ("a marker with a zero", staged(("plan", SWAP), ("at-01", b"")), "recover"),
+        ("an entry alone", staged(("t0", b"")), "recover"),
+        ("a journal that is cut", staged(("plan", SWAP[:96]), ("at-0", b"")), "recover"),
+        ("a byte behind the journal", staged(("plan", SWAP + b"x"), ("at-0", b"")), "recover"),
+        ("a file is gone", staged(("plan", SWAP), ("at-0", b""), names="b"), "recover"),
+        ("back, a file is gone", staged(("plan", SWAP), ("at-0", b""), names="b"), "recover --back"),
+        ("forward", staged(("plan", SWAP), ("at-0", b"")), "recover"), ("back", staged(("plan", SWAP), ("at-0", b"")), "recover --back"),
+        ("version 1, forward", staged(("plan", SWAP_1), ("at-0", b"")), "recover"),
+        ("version 1, back", staged(("plan", SWAP_1), ("at-0", b"")), "recover --back"),
+        ("version 1, cut", staged(("plan", SWAP_1[:60]), ("at-0", b"")), "recover"))]
+    aside = Tree().add_dir(("d",)).add_dir((".wdired-commit",), 0o700)
+    aside.add_file(("d", "x"))
+    aside.add_file(PLAN, None, journal([("rename", ("d",), own("h0"))]), 0o600)
+    aside.add_file(at(0), None, b"", 0o600)
+    cases.append(one_run("recover, a directory with a file was put aside", aside, {}, "recover"))
+    before, after = printed(TWO).encode(), buffer("c", "b").encode()
+    for call in range(8):
+        for back in ([], ["--back"]):
+            runs = [("commit B A".split(), Schedule(stop=(8, 0))), (["recover"] + back, Schedule(changes={call: False})),
+                    (["recover"] + back, Schedule())]
+            cases.append(Case("recover%s, changing call %d fails" % (", back" if back else "", call), TWO, {"B": before, "A": after}, runs))
+    return cases
+
+
+def tree_with(*bodies, names="a b"):
+    """The files of these names, and these by path, with the directories above them."""
+    tree = files(names)
+    for path, data in bodies:
+        directory, name = path.split("/")
+        if not tree.stands((directory,)):
+            tree.add_dir((directory,), 0o700)
+        tree.add_file((directory, name), None, data, 0o600)
+    return tree
+
+
 def examples():
-    return (renames() + not_built() + refusals() + bad_before() + bad_after() + words() + listings() + failing_looks() + failing_calls() + stopped())
+    return (renames() + together() + refusals() + bad_before() + bad_after() + words() + listings() + failing_looks() + failing_calls() + stopped() + recoveries())

@@ -44,7 +44,7 @@ def names():
     for lengths, place in (([255], None), ([256], 0), ([1, 256], 2), ([255] * 16, None), ([255] * 15 + [254, 1], 4096)):
         text = long_names(*lengths)
         yield row("resolve", "", text), fields(text) if place is None else refused("too long at byte %d" % place)
-    for text, in_link, line in given.ESCAPED + every_byte():
+    for text, in_link, line in given.ESCAPED + [("\té" * 1365, False, "\\té" * 1365)] + every_byte():
         yield row("escape-in-link" if in_link else "escape", text), fields(line)
         yield row("unescape", line), fields(text)
     for line, place in given.BAD_ESCAPES:
@@ -153,6 +153,8 @@ def journals():
         data = b"WDJ1" + (1).to_bytes(4, "big") + b"D" + length.to_bytes(2, "big") + path.encode()
         step = ("mkdir", tuple(path.split("/")))
         yield row("journal", data), answer or fields(*step_fields(step), Plain("written"), journal([step]))
+    for count, length, answer in given.LONG_JOURNALS:
+        yield row("long-journal", count, length), answer
 
 
 # ---- marks

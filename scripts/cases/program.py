@@ -1,7 +1,11 @@
-"""What the program answers today: status, text, the tree afterwards, and whether something is pending."""
+"""What the program answers: status, text, the tree afterwards, and whether something is pending."""
 import buffers
 import edits as rules
 import listing
+from commits import Commit
+from disks import Disk
+from plans import Change, holds, plan
+from recoveries import Recovery
 from texts import Refused, escape, path_text, resolve
 
 USAGE = "dired: usage: list, commit, run, recover or drill\n"
@@ -32,7 +36,7 @@ def tree_fault(call):
 
 
 def named(text, name):
-    return "dired: %s: %s\n" % (text, escape(name)) if text == "no such input" else "dired: %s %s\n" % (text, escape(name))
+    return "dired: %s: %s\n" % (text, escape(name)) if text != "cannot read" else "dired: %s %s\n" % (text, escape(name))
 
 
 def at_line(line, said):
@@ -51,17 +55,18 @@ class Run:
 
     def __init__(self, tree, inputs, schedule):
         self.tree, self.inputs, self.schedule = tree, inputs, schedule
-        self.reads = 0
-        # the tree at the last sync that was done, and the trees behind each changing call since
-        self.synced, self.pending, self.changes = tree, [], 0
+        self.reads = self.looks = 0
+        # where a commit has begun
+        self.disk = None
 
     # ---- the outside
 
     def look(self, looks):
-        """Makes looks of these names, the first of a run."""
-        failing = [look for look in self.schedule.looks if look < len(looks)]
+        """Makes looks of these names."""
+        failing = [look - self.looks for look in self.schedule.looks if 0 <= look - self.looks < len(looks)]
         if failing:
             raise tree_fault(looks[min(failing)])
+        self.looks += len(looks)
 
     def read(self, name):
         self.reads += 1
@@ -70,20 +75,6 @@ class Run:
         if name not in self.inputs:
             raise Ended(6, named("no such input", name))
         return self.inputs[name]
-
-    def change(self, call, tree):
-        """Makes a changing call, which leaves this tree where it is done."""
-        number = self.changes
-        self.changes += 1
-        fails = number in self.schedule.changes or (self.schedule.stop is not None and number > self.schedule.stop[0])
-        if not fails or self.schedule.changes.get(number, False):
-            self.tree = tree
-            if call == "sync":
-                self.synced, self.pending = tree, []
-            else:
-                self.pending.append(tree)
-        if fails:
-            raise tree_fault(call)
 
     # ---- the words
 
@@ -96,19 +87,27 @@ class Run:
         if self.schedule.stop is not None:
             return Outcome(None, "", self.image(self.schedule.stop[1]), False)
         if 0 in self.schedule.writes:
-            return Outcome(5, "", self.tree, bool(self.pending), status)
-        return Outcome(status, text, self.tree, bool(self.pending))
+            return Outcome(5, "", self.tree, self.is_pending(), status)
+        return Outcome(status, text, self.tree, self.is_pending())
+
+    def is_pending(self):
+        return self.disk is not None and bool(self.disk.pending)
 
     def image(self, number):
-        """What a crash leaves: of no pending call, or of one, which is kept where bit 1 of the number is set."""
-        assert len(self.pending) < 2
-        return self.pending[0] if self.pending and number & 2 else self.synced
+        """What a crash leaves: of the pending calls those are kept whose bits above the lowest one are set in the number. Where that one is
+        set, files are left without the bytes that were written."""
+        if self.disk is None:
+            return self.tree
+        pending = self.disk.pending
+        return self.disk.image([pending[place] for place in range(len(pending)) if number >> 1 >> place & 1], not number & 1)
 
     def decided(self, words):
         if words[:1] == ["list"]:
             return self.list(words[1:])
         if words[:1] == ["commit"]:
             return self.commit(words[1:])
+        if words[:1] == ["recover"]:
+            return self.recover(words[1:])
         raise usage()
 
     def list(self, words):
@@ -141,20 +140,60 @@ class Run:
             raise refusal_of(fault)
         return self.carry_out(edits, emptied)
 
+    def begin(self):
+        """Changing calls begin, with the looks that haven't been made."""
+        looks = [look - self.looks for look in self.schedule.looks if look >= self.looks]
+        stop = None if self.schedule.stop is None else self.schedule.stop[0]
+        self.disk = Disk(self.tree, self.schedule.changes, looks, stop)
+
+    def recover(self, words):
+        flags, names = split_words(words, "", ["back"])
+        if names:
+            raise usage()
+        self.begin()
+        ended = Recovery(self.disk, "back" in flags).run()
+        self.tree = self.disk.tree
+        if ended[0] in RECOVERED:
+            return RECOVERED[ended[0]]
+        raise recovery_end(*ended)
+
     def carry_out(self, edits, emptied):
-        """Today no edit, or one new name."""
-        counts = rules.counts_of(self.tree, edits)
-        if edits:
-            one_name = {name: int(name == "renamed") for name in counts}
-            if len(edits) > 1 or counts != one_name:
-                raise Ended(23, at_line(edits[min(1, len(edits) - 1)].line, "not built yet"))
-        self.change("sync", self.tree)
-        if edits:
-            edited = self.tree.renamed(edits[0].source, edits[0].to)
-            assert edited.nodes == rules.edited_tree(self.tree, edits).nodes
-            self.change("rename", edited)
-            self.change("sync", self.tree)
+        """Commits all edits."""
+        counts, edited = rules.counts_of(self.tree, edits), rules.edited_tree(self.tree, edits)
+        changes = [Change(edit.line, edit.source, edit.was, edit.to, edit.target, edit.mode) for edit in edits]
+        fresh = [("link", change.target) for change in changes if change.is_fresh()]
+        held = [self.tree.is_dir(path) for _, path, _ in holds(self.tree, changes)]
+        self.begin()
+        ended = Commit(self.disk, plan(self.tree, changes)[0], fresh, held).run()
+        self.tree = self.disk.tree
+        if ended[0] != "done":
+            raise commit_end(*ended)
+        assert self.tree.nodes == edited.nodes
         return summary_text(counts, emptied)
+
+
+def commit_end(name, *calls):
+    """The status of a commit that wasn't done."""
+    return {
+        "tree-fault": tree_fault,
+        "rolled-back": lambda first: Ended(12, "dired: %s failed; every change was taken back\n" % first),
+        "unfinished": lambda first, second: Ended(13, "dired: %s failed, then %s failed; run recover\n" % (first, second)),
+        "unclean": lambda first: Ended(14, "dired: committed, but %s failed; run recover\n" % first),
+    }[name](*calls)
+
+
+RECOVERED = {"nothing": "nothing to recover\n", "edited": "recovered: edited\n", "old": "recovered: old\n",
+             "cleared": "recovered: cleared\n"}
+
+
+def recovery_end(name, carried):
+    """The status of a recovery that wasn't done."""
+    return {
+        "tree-fault": tree_fault,
+        "bad-journal": lambda offset: Ended(15, "dired: journal unreadable at byte %d\n" % offset),
+        "foreign": lambda name: Ended(16, named("not of this program", name)),
+        "strange": lambda step: Ended(21, "dired: step %d: the tree is neither before nor after it\n" % step),
+    }[name](carried)
 
 
 def split_words(words, letters, long_names):

@@ -418,6 +418,16 @@ JOURNALS = [
     ("'WDJ1' 00000001 'M' 0001 'a' 01a4 1000", 'bad at 8'),
     ("'WDJ1' 00000001 'M' 0001 'a' 1000 01a4", 'bad at 8'),
     ("'WDJ1' 00000002 'D' 0001 'a' 'M' 0001 'a' 01a4 01", 'bad at 12'),
+    ("'WDJ1' 00000003 'D' 0003 'new' 'D' 0008 'new/deep' 'R' 0001 'x' 000a 'new/deep/x'", 'D new;D new/deep;R x new/deep/x;'),
+    ("'WDJ1' 00000002 'R' 0003 'd/a' 0003 'e/a' 'M' 0003 'd/b' 01a4 0180", 'R d/a e/a;M d/b 644 600;'),
+]
+
+# directories whose paths are the same: how many, of how many bytes, and what is read of their journal. Paths have 2 ** 28 bytes together at
+# most: 65,552 of 4,095 bytes have less, and one more has more. The journal's head has 8 bytes, its first step 9 and the path's, and each other 9.
+LONG_JOURNALS = [
+    (3, 4095, 'steps 3'),
+    (2, 4096, 'bad at 8'),
+    (65553, 4095, 'bad at %d' % (8 + 9 + 4095 + 65551 * 9)),
 ]
 
 # names of the files in COMMANDS
@@ -506,6 +516,6 @@ EDITS = [
 OUTSIDE = [
     ("shelf 1,5 a=one,b=\\e,a=two a:3 b:9 b:0 a:2 c:9 a:3 a:3", "read one failed read \\e too-large absent failed read one"),
     ("sink 2 ab \\e c de", "taken taken failed taken short 0 abde"),
-    ("shell 1 3 ls rm\\x20x \\e", "3 failed 3 ran ls \\e"),
+    ("shell 1 3 ls rm\\x20x \\e", "3 failed 3 short 0 ran ls \\e"),
     ("patterns 1 a* b ( b", "a* refused refused b"),
 ]

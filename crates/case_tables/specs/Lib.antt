@@ -1,2 +1,4 @@
 pub mod Entries
 pub mod Fields
+pub mod Calls
+pub mod Pending

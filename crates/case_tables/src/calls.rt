@@ -1,10 +1,11 @@
-// The changing calls of a tree.
+// The changing calls of a tree, and the names of calls.
+ghost use Rattle.case_tables.specs.Calls.{call_text as call_text_of};
 ghost use Rattle.std.specs.Prelude.{◌≡◌};
 ghost use Rattle.tree_core.specs.FileTree.{CanDo};
 ghost use Rattle.tree_core.specs.History.{current_tree, Performs};
 
 use dired_text::Failed;
-use tree_core::{Change, Tree};
+use tree_core::{CallName, Change, Tree};
 
 /// Makes a changing call, which can be made.
 pub fn make<T: Tree>(tree: &mut T, change: &Change) -> Result<(), Failed>
@@ -21,5 +22,28 @@ pub fn make<T: Tree>(tree: &mut T, change: &Change) -> Result<(), Failed>
         Change::Remove(path) => tree.remove(path),
         Change::RemoveDir(path) => tree.remove_dir(path),
         Change::Sync => tree.sync(),
+    }
+}
+
+/// The name of a call.
+pub fn call_text(call: CallName) -> &'static str
+    ensures { result.now ≡ call_text_of call }
+{
+    match call {
+        CallName::Kind => "kind",
+        CallName::Mode => "mode",
+        CallName::IsEmpty => "is_empty",
+        CallName::Meta => "meta",
+        CallName::Names => "names",
+        CallName::Read => "read",
+        CallName::MakeDir => "make_dir",
+        CallName::MakeLink => "make_link",
+        CallName::MakeHard => "make_hard",
+        CallName::WriteFile => "write_file",
+        CallName::Rename => "rename",
+        CallName::SetMode => "set_mode",
+        CallName::Remove => "remove",
+        CallName::RemoveDir => "remove_dir",
+        CallName::Sync => "sync",
     }
 }

@@ -1,5 +1,5 @@
 // Why a table isn't run to its end.
-use dired_text::Memory;
+use dired_text::{Failed, Memory};
 use std::alloc::{AllocError, AllocFailed};
 use std::io;
 
@@ -16,6 +16,13 @@ pub enum RowFault {
 
 impl From<Memory> for RowFault {
     fn from(_error: Memory) -> RowFault {
+        RowFault::Memory
+    }
+}
+
+// A call of a tree that fails though no row says so had no memory.
+impl From<Failed> for RowFault {
+    fn from(_error: Failed) -> RowFault {
         RowFault::Memory
     }
 }

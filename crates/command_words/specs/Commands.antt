@@ -10,7 +10,7 @@ use Rattle.clap.specs.Words.{App, Rule, Row, new_app, new_rule, with_rule, fault
 use Rattle.clap.specs.Simple.{on_top}
 use Rattle.clap.specs.declared.builder.action.ArgAction.TheVariants.{Set, Append, SetTrue}
 use Rattle.command_words.specs.declared.command.Command.{Command}
-use Rattle.command_words.specs.declared.command.Command.TheVariants.{Commit, List as Lists}
+use Rattle.command_words.specs.declared.command.Command.TheVariants.{Commit, List as Lists, Recover}
 use Rattle.command_words.specs.declared.command.WordsFault.{WordsFault}
 use Rattle.command_words.specs.declared.command.WordsFault.TheVariants.{Usage, Memory}
 
@@ -124,6 +124,14 @@ list_asked switches (Err e) = Err e
 abbrev pub list_by : List Row → Result Command WordsFault
 list_by rows = list_asked (switches_by rows) (paths_of dir_named (words_or_none (all_of (codes "DIR") rows)))
 
+-- ---- `recover [--back]`
+
+abbrev pub recover_app : App
+recover_app = with_rule (plain_app (codes "recover")) (named_flag (codes "back"))
+
+abbrev pub recover_by : List Row → Result Command WordsFault
+recover_by rows = Ok (Recover (is_set (codes "back") rows))
+
 -- ---- the commands
 
 -- what words ask for: the first is compared, and the rest are the words of that command
@@ -132,4 +140,5 @@ command_of [] = Err Usage
 command_of (command ∷ words) =
     if bytes_eq command (codes "list") then asked_by list_app list_by words
     else if bytes_eq command (codes "commit") then asked_by commit_app commit_by words
+    else if bytes_eq command (codes "recover") then asked_by recover_app recover_by words
     else Err Usage

@@ -24,6 +24,11 @@ pub enum Command {
         /// The files that may be replaced.
         confirmed: Paths,
     },
+    /// Bring what an interrupted commit left to exactly the old or the edited tree.
+    Recover {
+        /// Whether to the old one, where both can be reached.
+        back: bool,
+    },
 }
 
 /// Paths, in the order of the words.

@@ -8,6 +8,7 @@ mod list;
 mod matching;
 mod paths;
 mod reading;
+mod recover;
 
 pub use command::{Command, Paths, WordsFault};
 pub use reading::read_words;

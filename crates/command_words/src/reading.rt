@@ -6,6 +6,7 @@ ghost use Rattle.command_words.specs.Commands.{command_of};
 
 use crate::commit::read_commit;
 use crate::list::read_list;
+use crate::recover::read_recover;
 use crate::{Command, WordsFault};
 use std::alloc::Global;
 
@@ -23,6 +24,7 @@ pub fn read_words(alloc: Global, words: &[String]) -> Result<Command, WordsFault
     match command.as_str() {
         "list" => read_list(alloc, rest),
         "commit" => read_commit(alloc, rest),
+        "recover" => read_recover(alloc, rest),
         _ => Err(WordsFault::Usage),
     }
 }

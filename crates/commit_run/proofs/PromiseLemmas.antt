@@ -38,19 +38,19 @@ module _ (checked : Checked) (p : Prepared) (fits : FitsTrees checked p) (o : Hi
     abbrev with_made : List Node → Run
     with_made nodes = record { steps = p.steps; begun = o; new = edited_tree; made = nodes }
 
-    same_run : run_from p o edited_tree ≡ run_of checked o p.steps
+    same_run : run_from p o edited_tree ≡ run_of (changes_in checked) o p.steps
     same_run = ap (λ (fs : List Fresh). with_made (made_by fs)) fresh
 
     leads : Leads p.steps (current_tree o) edited_tree made
     leads = subst (λ (fs : List Fresh). Leads p.steps (current_tree o) edited_tree (made_by fs)) fresh begins.fits.leads
 
     module _ (counted : AreCounted checked p.steps) (now : History) (before : FileTree) where
-      is_commit : (ended : CommitEnd) → EndsRun (run_from p o edited_tree) now before ended → IsCommit checked o now before ended
+      is_commit : (ended : CommitEnd) → EndsRun (run_from p o edited_tree) now before ended → IsCommit (changes_in checked) o now before ended
       is_commit ended run =
           let as_asked = subst (λ (r : Run). EndsRun r now before ended) same_run run in
           record { steps = p.steps; leads = leads; count = counted (current_tree o) old.found; ends = as_asked.ends; place = as_asked.place }
 
-      pub commits : (ended : CommitEnd) → EndsRun (run_from p o edited_tree) now before ended → Commits checked o now before ended
+      pub commits : (ended : CommitEnd) → EndsRun (run_from p o edited_tree) now before ended → Commits (changes_in checked) o now before ended
       commits end.Done run = is_commit end.Done run
       commits end.Memory run = run.ends.stands
       commits (end.TreeFault first) run = is_commit (end.TreeFault first) run

@@ -7,6 +7,7 @@ ghost use Rattle.commit_run.specs.Ends.{end_behind};
 ghost use Rattle.commit_run.specs.Faults.{NamesFaults, NamesSecond};
 ghost use Rattle.commit_run.specs.Preparing.{IsPrepared};
 ghost use Rattle.commit_run.specs.Sealing.{finish_calls};
+ghost use Rattle.edit_check.specs.StandFor.{changes_in};
 ghost use Rattle.tree_core.specs.Faults.{NamesFault};
 ghost use Rattle.tree_core.specs.History.{IsDurable, current_tree};
 ghost use Rattle.tree_core.specs.Runs.{CanAll, Ran};
@@ -30,7 +31,7 @@ use tree_core::{CallName, Tree};
 pub fn commit<T: Tree>(alloc: Global, tree: &mut T, checked: Checked) -> CommitEnd
     requires stands { T.Tells → IsOldTree checked (current_tree (T.history tree.old)) }
     requires durable { T.Tells → IsDurable (T.history tree.old) }
-    ensures commit { T.Tells → Commits checked
+    ensures commit { T.Tells → Commits (changes_in checked)
         (T.history tree.old) (T.history tree.new) (T.before_failed tree.new) result }
     ensures faults { NamesFaults (T.faults tree.old) (T.faults tree.new) result }
 {

@@ -1,5 +1,5 @@
 -- What is printed of a run.
-use Rattle.std.specs.Prelude.{ℕ, ◌==◌, nat_lt, List, [], ◌∷◌, ◌++◌, codes, decimal, flat_map, if◌then◌else◌}
+use Rattle.std.specs.Prelude.{ℕ, ◌==◌, List, [], ◌∷◌, ◌++◌, codes, decimal, flat_map, if◌then◌else◌}
 use Rattle.case_tables.specs.Fields.{field_byte}
 
 -- a byte of the output, in which each newline begins a line behind `|`
@@ -12,7 +12,3 @@ report_text number written = codes "status " ++ decimal number ++ codes "\n|" ++
 
 abbrev pub held_text : ℕ → List ℕ
 held_text held = codes "held " ++ decimal held ++ codes "\n"
-
--- by the number of the images that a crash may leave, two of each
-abbrev pub pending_text : ℕ → List ℕ
-pending_text images = if nat_lt 2 images then codes "pending\n" else codes "durable\n"

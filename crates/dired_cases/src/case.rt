@@ -1,8 +1,7 @@
 // A case, as its rows are read.
 use crate::row::{Row, read_row};
-use crate::running::{run_on, tree_behind};
-use crate::schedule::Schedule;
-use case_tables::{RowFault, Table, TreeRows, head_text};
+use crate::running::run_on;
+use case_tables::{RowFault, Schedule, Table, TreeRows, head_text, tree_behind};
 use dired_text::{Bytes, MemShelf, Text};
 use mem_tree::MemTree;
 use std::alloc::Global;
@@ -49,7 +48,8 @@ impl Case {
                 self.has_line = false;
             }
             Row::Line(bytes) => self.take_line(bytes.as_slice())?,
-            row => self.schedule_row(row)?,
+            Row::Schedule(row) => self.schedule.take(row)?,
+            Row::Blank => {}
         }
         Ok(String::new(self.alloc))
     }
@@ -64,19 +64,6 @@ impl Case {
         }
         input.1.extend_from_slice(bytes)?;
         self.has_line = true;
-        Ok(())
-    }
-
-    // What is said of the next run.
-    fn schedule_row(&mut self, row: Row) -> Result<(), RowFault> {
-        match row {
-            Row::FailChange(call, is_done) => self.schedule.fail_change(call, is_done)?,
-            Row::FailLook(call) => self.schedule.looks.push(call)?,
-            Row::FailRead(call) => self.schedule.reads.push(call)?,
-            Row::FailWrite(call) => self.schedule.writes.push(call)?,
-            Row::Stop { call, image } => self.schedule.stop(call, image)?,
-            _ => {}
-        }
         Ok(())
     }
 

@@ -8,7 +8,6 @@ mod case;
 mod report;
 mod row;
 mod running;
-mod schedule;
 
 use case::Case;
 use case_tables::run_table;

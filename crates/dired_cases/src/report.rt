@@ -3,15 +3,12 @@ ghost use Rattle.std.specs.Prelude.{◌≡◌, ◌++◌, ℕ, IfOk, OnOk, flat_m
 ghost use Rattle.std.specs.String.{string_bytes};
 ghost use Rattle.dired_run.specs.Statuses.{number_of};
 ghost use Rattle.dired_run.specs.declared.status.Status.TheVariants.{WriteFault};
-ghost use Rattle.dired_cases.specs.Reports.{report_text as report_text_of, line_byte as line_byte_of, held_text, pending_text};
+ghost use Rattle.dired_cases.specs.Reports.{report_text as report_text_of, line_byte as line_byte_of, held_text};
 
 use case_tables::push_field_byte;
 use dired_run::Status;
 use dired_text::Memory;
 use std::alloc::Global;
-
-/// What is printed of a run that was stopped.
-pub const STOPPED: &str = "stopped\n";
 
 /// What is printed of a status and of the bytes that were written.
 pub fn report_text(alloc: Global, status: &Status, written: &[u8]) -> Result<String, Memory>
@@ -33,14 +30,6 @@ pub fn push_held(text: &mut String, status: &Status) -> Result<(), Memory>
         let row = format!(in *text.allocator(); "held {held}\n")?;
         text.push_str(row.as_str())?;
     }
-    Ok(())
-}
-
-/// Prints whether something is pending: where nothing is, a crash leaves one tree, and there are two images of it.
-pub fn push_pending(text: &mut String, images: usize) -> Result<(), Memory>
-    ensures { OnOk result (string_bytes text.new ≡ string_bytes text.old ++ pending_text images) }
-{
-    text.push_str(if images > 2 { "pending\n" } else { "durable\n" })?;
     Ok(())
 }
 

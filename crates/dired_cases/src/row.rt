@@ -1,5 +1,5 @@
 // The rows of a table.
-use case_tables::{RowFault, bytes_of, entry_of, number_of, text_of};
+use case_tables::{RowFault, ScheduleRow, bytes_of, entry_of, schedule_row_of, text_of};
 use dired_text::{Bytes, Text};
 use mem_tree::Entry;
 use std::alloc::Global;
@@ -17,16 +17,8 @@ pub enum Row {
     Input(Text),
     /// The next line of the input.
     Line(Bytes),
-    /// This changing call of the next run fails, and whether it is done all the same.
-    FailChange(u64, bool),
-    /// This look of the next run fails.
-    FailLook(u64),
-    /// This read of an input fails.
-    FailRead(u64),
-    /// This write of the output fails.
-    FailWrite(u64),
-    /// The next run is stopped behind this changing call, and the image of this number stands then.
-    Stop { call: u64, image: u64 },
+    /// Which calls of the next run fail.
+    Schedule(ScheduleRow),
     /// These words are run.
     Run(Vec<String>),
 }
@@ -51,7 +43,7 @@ pub fn read_row(alloc: Global, line: &str) -> Result<Row, RowFault> {
         ["dir" | "link" | "file", ..] => Ok(Row::Entry(entry_of(alloc, &fields)?)),
         ["case", name] => Ok(Row::Case(text_of(alloc, name)?)),
         ["input", name] => Ok(Row::Input(text_of(alloc, name)?)),
-        fields => schedule_of(fields),
+        fields => Ok(Row::Schedule(schedule_row_of(fields)?)),
     }
 }
 
@@ -63,20 +55,4 @@ fn words_of(alloc: Global, fields: &[&str]) -> Result<Row, RowFault> {
         words.push(String::from_str(alloc, word.as_str())?)?;
     }
     Ok(Row::Run(words))
-}
-
-// What is said of the next run.
-fn schedule_of(fields: &[&str]) -> Result<Row, RowFault> {
-    match fields {
-        ["fail-change", call, "done"] => Ok(Row::FailChange(number_of(call)?, true)),
-        ["fail-change", call, "not-done"] => Ok(Row::FailChange(number_of(call)?, false)),
-        ["fail-look", call] => Ok(Row::FailLook(number_of(call)?)),
-        ["fail-read", call] => Ok(Row::FailRead(number_of(call)?)),
-        ["fail-write", call] => Ok(Row::FailWrite(number_of(call)?)),
-        ["stop", call, image] => Ok(Row::Stop {
-            call: number_of(call)?,
-            image: number_of(image)?,
-        }),
-        _ => Err(RowFault::Bad),
-    }
 }

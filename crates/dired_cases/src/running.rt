@@ -1,15 +1,14 @@
 // A run of the program over objects in memory.
-ghost use Rattle.std.specs.Prelude.{IsTrue};
-ghost use Rattle.tree_core.specs.History.{IsDurable};
-
-use crate::report::{STOPPED, push_held, push_pending, report_text};
-use crate::schedule::Schedule;
-use case_tables::{RowFault, push_tree};
+use crate::report::{push_held, report_text};
+use case_tables::{RowFault, STOPPED, Schedule, settle};
 use dired_run::{Status, run};
-use dired_text::{MemShelf, MemSink, Shelf, Sink};
+use dired_text::{MemPatterns, MemShelf, MemShell, MemSink, Patterns, Shelf, Shell, Sink};
 use mem_tree::MemTree;
 use std::alloc::Global;
 use tree_core::Tree;
+
+// The moment of each run, in seconds since 1970.
+const NOW: i64 = 0;
 
 /// Runs the words, and answers what is printed of the status and of the bytes written. Of a run that is stopped neither is known.
 pub fn run_on(
@@ -19,11 +18,21 @@ pub fn run_on(
     shelf: MemShelf,
     schedule: Schedule,
 ) -> Result<String, RowFault> {
+    schedule.begin(tree)?;
     let mut shelf = shelf;
+    let mut patterns = MemPatterns::new(alloc, Vec::new(alloc))?;
+    let mut shell = MemShell::new(alloc, 0, Vec::new(alloc))?;
     let mut sink = MemSink::new(alloc, schedule.writes)?;
-    tree.fail_looks(&schedule.looks)?;
-    tree.fail_changes(&schedule.changes)?;
-    let Some(status) = run_settled(alloc, words, tree, &mut shelf, &mut sink) else {
+    let ended = run_settled(
+        alloc,
+        words,
+        tree,
+        &mut shelf,
+        &mut patterns,
+        &mut shell,
+        &mut sink,
+    );
+    let Some(status) = ended else {
         return Err(RowFault::Memory);
     };
     if schedule.image.is_some() {
@@ -34,55 +43,18 @@ pub fn run_on(
     Ok(text)
 }
 
-/// Prints the tree that stands behind a run, or the image of this number, and answers it.
-///
-/// # Errors
-/// `Bad` where there is no such image.
-pub fn tree_behind(
-    alloc: Global,
-    text: &mut String,
-    tree: MemTree,
-    image: Option<u64>,
-) -> Result<MemTree, RowFault> {
-    let mut tree = match image {
-        None => tree,
-        Some(number) => image_of(&tree, number)?,
-    };
-    tree.fail_looks(&[])?;
-    push_tree(alloc, text, &mut tree, None)?;
-    push_pending(text, tree.images()?.len())?;
-    Ok(tree)
-}
-
-// The image of this number.
-fn image_of(tree: &MemTree, number: u64) -> Result<MemTree, RowFault> {
-    let mut left = number;
-    for image in tree.images()? {
-        if left == 0 {
-            return Ok(image);
-        }
-        left -= 1;
-    }
-    Err(RowFault::Bad)
-}
-
 // Runs the words once nothing is pending, or answers None where the sync before it failed.
-fn run_settled<T: Tree, H: Shelf, W: Sink>(
+fn run_settled<T: Tree, H: Shelf, P: Patterns, S: Shell, W: Sink>(
     alloc: Global,
     words: &[String],
     tree: &mut T,
     shelf: &mut H,
+    patterns: &mut P,
+    shell: &mut S,
     sink: &mut W,
 ) -> Option<Status> {
     if !settle(tree) {
         return None;
     }
-    Some(run(alloc, words, tree, shelf, sink))
-}
-
-// Has nothing pending behind it, where it answers true.
-fn settle<T: Tree>(tree: &mut T) -> bool
-    ensures { T.Tells → IsTrue result → IsDurable (T.history tree.new) }
-{
-    tree.sync().is_ok()
+    Some(run(alloc, words, tree, shelf, patterns, shell, sink, NOW))
 }

@@ -1,8 +1,9 @@
 mod CarryLemmas
 mod CompleteLemmas
-mod CountLemmas
-mod EditedLemmas
-mod OneLemmas
-mod RenameLemmas
+mod DecidedLemmas
+mod InputLemmas
+mod KeptLemmas
+mod ListLemmas
+mod MomentLemmas
 mod ReportLemmas
 mod RunLemmas

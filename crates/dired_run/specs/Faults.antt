@@ -1,6 +1,10 @@
--- The statuses of what other crates refuse.
+-- The statuses of what other crates end with.
 use Rattle.wdired_buffer.specs.declared.faults.LineCause.{LineCause as BufferLineCause}
 use Rattle.wdired_buffer.specs.declared.faults.LineCause.TheVariants as line
+use Rattle.commit_run.specs.declared.end.CommitEnd.{CommitEnd}
+use Rattle.commit_run.specs.declared.end.CommitEnd.TheVariants as end
+use Rattle.commit_recover.specs.declared.end.RecoverEnd.{RecoverEnd}
+use Rattle.commit_recover.specs.declared.end.RecoverEnd.TheVariants as recovery
 use Rattle.edit_words.specs.declared.fault.CheckFault.{CheckFault}
 use Rattle.edit_words.specs.declared.fault.CheckFault.TheVariants as fault
 use Rattle.dired_run.specs.declared.status.Counted.TheVariants as counted
@@ -35,3 +39,24 @@ status_of_fault (fault.Unconfirmed line path) = status.Unconfirmed line path
 status_of_fault (fault.PathBytes bytes) = status.TooLarge counted.PathBytes bytes
 status_of_fault (fault.TreeFault call) = status.TreeFault call
 status_of_fault fault.Memory = status.Memory
+
+-- how a commit ended
+abbrev pub status_of_commit : CommitEnd → Status
+status_of_commit end.Done = status.Done
+status_of_commit end.Memory = status.Memory
+status_of_commit (end.TreeFault first) = status.TreeFault first
+status_of_commit (end.RolledBack first) = status.RolledBack first
+status_of_commit (end.Unfinished first second) = status.Unfinished first second
+status_of_commit (end.Unclean first) = status.Unclean first
+
+-- how a recovery ended
+abbrev pub status_of_recovery : RecoverEnd → Status
+status_of_recovery recovery.Nothing = status.Done
+status_of_recovery recovery.Edited = status.Done
+status_of_recovery recovery.Old = status.Done
+status_of_recovery recovery.Cleared = status.Done
+status_of_recovery recovery.Memory = status.Memory
+status_of_recovery (recovery.TreeFault first) = status.TreeFault first
+status_of_recovery (recovery.BadJournal offset) = status.BadJournal offset
+status_of_recovery (recovery.Foreign name) = status.Foreign name
+status_of_recovery (recovery.Strange step) = status.Strange step

@@ -1,5 +1,6 @@
 pub mod Faults
 pub mod Inputs
+pub mod Kept
 pub mod Reports
 pub mod Requests
 pub mod Runs

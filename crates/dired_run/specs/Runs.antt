@@ -1,25 +1,43 @@
 -- What a run does, as a function of its words, its inputs and the tree that it finds.
-use Rattle.std.specs.Prelude.{◌≡◌, ℕ, Bool, true, false, List, Option, Some, Result, Ok, Err}
+use Rattle.std.specs.Prelude.{◌≡◌, ◌⊎◌, ◌≤◌, ◌^◌, ℕ, Bool, List, length, Option, Some, Result, Ok, Err}
 use Rattle.dired_text.specs.Counts.{raised}
 use Rattle.dired_text.specs.Paths.{Names}
+use Rattle.tree_core.specs.declared.changes.Changes.TheVariants.{Edits}
+use Rattle.tree_core.specs.declared.edit.Edit.{Edit}
 use Rattle.tree_core.specs.declared.faults.Faults.{Faults}
 use Rattle.tree_core.specs.declared.meta.Meta.{Meta}
-use Rattle.tree_core.specs.FileTree.{FileTree}
-use Rattle.tree_core.specs.History.{History, current_tree, IsDurable}
+use Rattle.tree_core.specs.declared.node.CallName.{CallName}
+use Rattle.tree_core.specs.declared.node.Node.{Node}
+use Rattle.tree_core.specs.FileTree.{FileTree, IsAbsent, IsTree}
+use Rattle.tree_core.specs.History.{History, LeavesOnly, current_tree}
 use Rattle.tree_core.specs.Faults.{with_fault}
+use Rattle.commit_steps.specs.declared.step.Step.{Step}
+use Rattle.commit_steps.specs.Staging.{staging}
+use Rattle.commit_states.specs.Interrupted.{IsInterrupted}
+use Rattle.commit_run.specs.declared.end.CommitEnd.{CommitEnd}
+use Rattle.commit_run.specs.Commits.{Commits, run_of}
+use Rattle.commit_run.specs.Ends.{MayStand}
+use Rattle.commit_run.specs.Faults.{NamesFaults}
+use Rattle.commit_recover.specs.declared.end.RecoverEnd.{RecoverEnd}
+use Rattle.commit_recover.specs.Answers.{Answers}
+use Rattle.commit_recover.specs.Faults as recovery_faults
+use Rattle.commit_recover.specs.Recovers as recovery
+use Rattle.listing_text.specs.declared.switches.Switches.{Switches}
 use Rattle.command_words.specs.declared.command.Command.{Command}
 use Rattle.command_words.specs.declared.command.Command.TheVariants as command
 use Rattle.command_words.specs.declared.command.WordsFault.{WordsFault}
 use Rattle.command_words.specs.declared.command.WordsFault.TheVariants as words_fault
 use Rattle.command_words.specs.Commands.{command_of}
-use Rattle.subdir_list.specs.Listings.{first_other}
+use Rattle.edit_words.specs.Found.{IsLook}
+use Rattle.subdir_list.specs.Listings.{IsListing, first_other}
 use Rattle.dired_run.specs.declared.requests.Request.{Request}
 use Rattle.dired_run.specs.declared.status.Status.{Status}
-use Rattle.dired_run.specs.declared.status.Status.TheVariants.{Done, Usage, Memory, ReadFault, TreeFault, WriteFault}
+use Rattle.dired_run.specs.declared.status.Status.TheVariants.{Done, Usage, Memory, ReadFault, TreeFault}
+use Rattle.dired_run.specs.Faults.{status_of_commit, status_of_recovery}
 use Rattle.dired_run.specs.Inputs.{Files}
 use Rattle.dired_run.specs.Requests.{request_of}
-use Rattle.dired_run.specs.Statuses.{text_of, ByCause}
-use Rattle.dired_run.specs.Verdicts.{Verdict, Refuses, IsOutput, on_tree, on_dirs, status_of, edited, FaultLeaves}
+use Rattle.dired_run.specs.Statuses.{IsDecisionOf, IsKeptBehind, LastReadBehind, ReadsBehind, calls_behind, sort_of, text_of}
+use Rattle.dired_run.specs.Verdicts.{Verdict, Refuses, Makes, Lists, Recovers, on_tree, on_dirs, recovered_text, summary_of}
 
 abbrev pub of_request : Result Request Status → FileTree → Verdict
 of_request (Err status) t = Refuses status
@@ -30,15 +48,11 @@ of_command (Err words_fault.Usage) files t = Refuses Usage
 of_command (Err words_fault.Memory) files t = Refuses Memory
 of_command (Ok (command.Commit all before after confirmed)) files t = of_request (request_of files before after (record { all = all; paths = confirmed })) t
 of_command (Ok (command.List switches dirs)) files t = on_dirs switches dirs (first_other t dirs)
+of_command (Ok (command.Recover back)) files t = Recovers back
 
--- The first refusal, in the order of words, inputs, lines and tree, or what is to become of the tree, or its listing.
+-- The first refusal, in the order of words, inputs, lines and tree, or the edits that are made, or the listing, or the recovery.
 abbrev pub verdict : List (List ℕ) → Files → FileTree → Verdict
 verdict words files t = of_command (command_of words) files t
-
--- what a run writes last that decided this status: at Done the output of the command, else the text of the status
-abbrev pub IsText : Verdict → FileTree → (Names → Meta) → Status → List ℕ → Type 0
-IsText verdict t fields Done text = IsOutput verdict t fields text
-IsText verdict t fields status text = text ≡ text_of status
 
 -- What is known of the outside at the start and at the end of a run: the history of the tree, the fields that it shows, its
 -- failed calls and the tree that the last one found, how many reads failed and the name of the last.
@@ -50,25 +64,77 @@ pub record Outside : Type 0 where
   pub read_faults : ℕ
   pub last_read : Option (List ℕ)
 
-abbrev pub SameFaults : Outside → Outside → Type 0
-SameFaults before now = (now.tree_faults ≡ before.tree_faults) × (now.read_faults ≡ before.read_faults)
+abbrev pub outside : History → (Names → Meta) → Faults → FileTree → ℕ → Option (List ℕ) → Outside
+outside history fields tree_faults found read_faults last_read =
+    record {
+      history = history;
+      fields = fields;
+      tree_faults = tree_faults;
+      found = found;
+      read_faults = read_faults;
+      last_read = last_read;
+    }
 
--- How a run comes to decide a status, before its last line is written. Want of memory leaves the old tree, with no call of
--- the tree failed; it may stand in place of a failed read, whose text has to be made. Behind a failed
--- call of the tree or a failed read nothing more is done. Every other status is that of the verdict, with exactly the
--- edited tree, which for a refusal is the old one, and nothing pending.
-abbrev pub Decides : Verdict → Outside → Outside → Status → Type 0
-Decides verdict before now decided = ByCause decided
-    ((now.history ≡ before.history) × (now.tree_faults ≡ before.tree_faults))
-    (λ first. FaultLeaves first (current_tree before.history) (edited verdict (current_tree before.history)) now.found (current_tree now.history)
-    × (now.tree_faults ≡ with_fault first before.tree_faults) × (now.read_faults ≡ before.read_faults))
-    (λ failed. (now.history ≡ before.history) × (now.tree_faults ≡ before.tree_faults) × (now.read_faults ≡ raised before.read_faults) × (now.last_read ≡ Some failed))
-    ((decided ≡ status_of verdict) × (current_tree now.history ≡ edited verdict (current_tree before.history)) × IsDurable now.history × SameFaults before now)
+-- no call changed the tree, and none failed
+pub record IsSameTree (before now : Outside) : Type 0 where
+  pub history : now.history ≡ before.history
+  pub faults : now.tree_faults ≡ before.tree_faults
 
--- whether a status can come in a run in which a call of the outside failed
-abbrev pub may_follow_fault : Status → Bool
-may_follow_fault Memory = true
-may_follow_fault (ReadFault name) = true
-may_follow_fault (TreeFault first) = true
-may_follow_fault (WriteFault held) = true
-may_follow_fault status = false
+-- what is written last where the command was done, and else
+abbrev pub last_text : Status → List ℕ → List ℕ
+last_text Done output = output
+last_text status output = text_of status
+
+-- What holds of a status that a run decided and of what it then writes last, whatever the tree and the inputs tell: it is none of a
+-- failed write, its text is its own, and it tells what failed. Where the tree tells, nothing was changed behind a refusal.
+pub record IsDecided (TreeTells InputsTell : Type 0) (before now : Outside) (decided : Status) (text : List ℕ) : Type 0 where
+  pub decision : IsDecisionOf (sort_of decided)
+  pub said : (decided ≡ Done) ⊎ (text ≡ text_of decided)
+  pub calls : now.tree_faults ≡ calls_behind (sort_of decided) before.tree_faults
+  pub reads : ReadsBehind (sort_of decided) before.read_faults now.read_faults
+  pub last_read : InputsTell → LastReadBehind (sort_of decided) now.last_read
+  pub kept : TreeTells → IsKeptBehind (sort_of decided) before.history now.history
+
+-- the check of edits that can be made only looks at the tree
+abbrev pub IsLookFor : Verdict → CallName → Type 0
+IsLookFor (Refuses status) call = Unit {0}
+IsLookFor (Makes edits flagged) call = IsLook call
+IsLookFor (Lists switches dirs) call = Unit {0}
+IsLookFor (Recovers back) call = Unit {0}
+
+-- How a run comes to decide a status, and what it then writes last.
+pub data Decides (v : Verdict) (before now : Outside) (decided : Status) (text : List ℕ) : Type 0 where
+  -- Memory ran out before the tree was changed. This may stand for a failed read, whose text has to be made.
+  no_memory : decided ≡ Memory → text ≡ text_of Memory → IsSameTree before now → Decides v before now decided text
+  -- An input couldn't be read.
+  read_failed : (name : List ℕ) → decided ≡ ReadFault name → text ≡ text_of (ReadFault name) → IsSameTree before now
+      → now.read_faults ≡ raised before.read_faults → now.last_read ≡ Some name → Decides v before now decided text
+  -- A look at the tree failed.
+  look_failed : (first : CallName) → IsLookFor v first → decided ≡ TreeFault first → text ≡ text_of (TreeFault first) → now.history ≡ before.history
+      → now.found ≡ current_tree before.history → now.tree_faults ≡ with_fault first before.tree_faults → now.read_faults ≡ before.read_faults
+      → Decides v before now decided text
+  refused : v ≡ Refuses decided → text ≡ text_of decided → IsSameTree before now → now.read_faults ≡ before.read_faults
+      → Decides v before now decided text
+  listed : (switches : Switches) (dirs : List Names) → v ≡ Lists switches dirs → decided ≡ Done
+      → IsListing switches (current_tree before.history) before.fields dirs text → IsSameTree before now → now.read_faults ≡ before.read_faults
+      → Decides v before now decided text
+  -- All edits were committed, and the commit ended so.
+  committed : (edits : List Edit) (flagged : List Names) (ended : CommitEnd) → v ≡ Makes edits flagged
+      → Commits (Edits edits) before.history now.history now.found ended → NamesFaults before.tree_faults now.tree_faults ended
+      → now.read_faults ≡ before.read_faults → decided ≡ status_of_commit ended
+      → text ≡ last_text decided (summary_of (current_tree before.history) edits flagged) → Decides v before now decided text
+  -- A recovery ended so.
+  recovered : (back : Bool) (ended : RecoverEnd) → v ≡ Recovers back → recovery.Recovers back before.history now.history ended
+      → Answers back before.history now.history now.found ended → recovery_faults.NamesFaults before.tree_faults now.tree_faults ended
+      → now.read_faults ≡ before.read_faults → decided ≡ status_of_recovery ended → text ≡ last_text decided (recovered_text ended)
+      → Decides v before now decided text
+
+-- What a crash at any moment of a run leaves: the tree from before; or where edits are made, for one list of steps, what may stand
+-- where their commit was stopped. Where a commit was stopped and is recovered, it leaves what may stand there for the same trees.
+abbrev pub MayLeave : Verdict → History → History → Type 0
+MayLeave (Refuses status) begun now = LeavesOnly begun now (λ c. c ≡ current_tree begun)
+MayLeave (Makes edits flagged) begun now = (steps : List Step) × LeavesOnly begun now (MayStand (run_of (Edits edits) begun steps))
+MayLeave (Lists switches dirs) begun now = LeavesOnly begun now (λ c. c ≡ current_tree begun)
+MayLeave (Recovers back) begun now =
+    (steps : List Step) (old new : FileTree) (fresh : List Node) → IsTree old → IsAbsent old staging → length fresh ≤ 2 ^ 32
+    → IsInterrupted steps old new fresh (current_tree begun) → LeavesOnly begun now (IsInterrupted steps old new fresh)

@@ -1,9 +1,13 @@
 -- The numbers of the statuses, and their texts.
-use Rattle.std.specs.Prelude.{ℕ, Bool, true, false, List, [], ◌++◌, codes, decimal}
+use Rattle.std.specs.Prelude.{◌≡◌, ◌⊎◌, ℕ, Bool, true, false, List, [], ◌∷◌, ◌++◌, codes, decimal, Option, Some}
+use Rattle.dired_text.specs.Counts.{raised}
 use Rattle.dired_text.specs.Escape.{escaped}
 use Rattle.dired_text.specs.Paths.{Names as Path, joined}
+use Rattle.tree_core.specs.declared.faults.Faults.{Faults}
 use Rattle.tree_core.specs.declared.node.CallName.{CallName}
 use Rattle.tree_core.specs.declared.node.CallName.TheVariants.{Kind, Mode, IsEmpty, Meta, Names, Read, MakeDir, MakeLink, MakeHard, WriteFile, Rename, SetMode, Remove, RemoveDir, Sync}
+use Rattle.tree_core.specs.Faults.{with_fault}
+use Rattle.tree_core.specs.History.{History}
 use Rattle.dired_run.specs.declared.status.Counted.{Counted}
 use Rattle.listing_text.specs.declared.faults.Field.{Field}
 use Rattle.listing_text.specs.declared.faults.Field.TheVariants as field
@@ -13,7 +17,7 @@ use Rattle.dired_run.specs.declared.status.Counted.TheVariants.{BufferBytes, Buf
 use Rattle.dired_run.specs.declared.status.LineCause.{LineCause}
 use Rattle.dired_run.specs.declared.status.LineCause.TheVariants as cause
 use Rattle.dired_run.specs.declared.status.Status.{Status}
-use Rattle.dired_run.specs.declared.status.Status.TheVariants.{Done, Usage, Memory, ReadFault, TreeFault, WriteFault, Missing, BadBuffer, Faulty, Unconfirmed, Stale, Pending, TooLarge, NotBuilt}
+use Rattle.dired_run.specs.declared.status.Status.TheVariants.{Done, Usage, Memory, ReadFault, TreeFault, WriteFault, Missing, BadBuffer, Faulty, Unconfirmed, Stale, Pending, RolledBack, Unfinished, Unclean, BadJournal, Foreign, TooLarge, Strange}
 
 abbrev pub number_of : Status → ℕ
 number_of Done = 0
@@ -28,8 +32,13 @@ number_of (Faulty line cause) = 8
 number_of (Unconfirmed line path) = 9
 number_of (Stale line) = 10
 number_of Pending = 11
+number_of (RolledBack first) = 12
+number_of (Unfinished first second) = 13
+number_of (Unclean first) = 14
+number_of (BadJournal offset) = 15
+number_of (Foreign name) = 16
 number_of (TooLarge what number) = 18
-number_of (NotBuilt line) = 23
+number_of (Strange step) = 21
 
 abbrev pub call_text : CallName → List ℕ
 call_text Kind = codes "kind"
@@ -102,13 +111,21 @@ bad_line_text name line cause = codes "dired: " ++ escaped false name ++ codes "
 abbrev pub line_text : ℕ → List ℕ → List ℕ
 line_text line said = codes "dired: line " ++ decimal line ++ codes ": " ++ said ++ codes "\n"
 
+-- what is said of a failed call
+abbrev pub call_failed_text : List ℕ → CallName → List ℕ → List ℕ
+call_failed_text said call behind = said ++ call_text call ++ behind
+
+-- what is said of a number
+abbrev pub number_text : List ℕ → ℕ → List ℕ → List ℕ
+number_text said number behind = said ++ decimal number ++ behind
+
 -- the text of a status, with names escaped; empty for one that has none
 abbrev pub text_of : Status → List ℕ
 text_of Done = []
 text_of Usage = codes "dired: usage: list, commit, run, recover or drill\n"
 text_of Memory = codes "dired: out of memory\n"
 text_of (ReadFault name) = codes "dired: cannot read " ++ escaped false name ++ codes "\n"
-text_of (TreeFault first) = codes "dired: " ++ call_text first ++ codes " failed; nothing was decided\n"
+text_of (TreeFault first) = call_failed_text (codes "dired: ") first (codes " failed; nothing was decided\n")
 text_of (WriteFault held) = []
 text_of (Missing name) = codes "dired: no such input: " ++ escaped false name ++ codes "\n"
 text_of (BadBuffer name line cause) = bad_line_text name line cause
@@ -116,56 +133,157 @@ text_of (Faulty line cause) = line_text line (cause_text cause)
 text_of (Unconfirmed line path) = line_text line (path_text path ++ codes " would be replaced")
 text_of (Stale line) = line_text line (codes "the file is not as shown")
 text_of Pending = codes "dired: an unfinished commit stands; run recover\n"
+text_of (RolledBack first) = call_failed_text (codes "dired: ") first (codes " failed; every change was taken back\n")
+text_of (Unfinished first second) =
+    call_failed_text (codes "dired: ") first (codes " failed, then ") ++ call_failed_text [] second (codes " failed; run recover\n")
+text_of (Unclean first) = call_failed_text (codes "dired: committed, but ") first (codes " failed; run recover\n")
+text_of (BadJournal offset) = number_text (codes "dired: journal unreadable at byte ") offset (codes "\n")
+text_of (Foreign name) = codes "dired: not of this program: " ++ escaped false name ++ codes "\n"
+text_of (Strange step) = number_text (codes "dired: step ") step (codes ": the tree is neither before nor after it\n")
 text_of (TooLarge what number) = codes "dired: too large: " ++ counted_text what ++ codes " " ++ decimal number ++ codes "\n"
-text_of (NotBuilt line) = line_text line (codes "not built yet")
+
+-- ---- What a status tells.
+
+-- It tells that all was done; a refusal, with whether its text is written without memory; what a recovery met on its way, behind which the
+-- tree may have changed; want of memory; or what failed outside.
+pub data Sort : Type 0 where
+  Success : Sort
+  Refusal : Bool → Sort
+  Encounter : Sort
+  Shortage : Sort
+  -- a read of this name
+  Reading : List ℕ → Sort
+  -- these calls of the tree, in their order
+  Calls : List CallName → Sort
+  -- a write, while the text of the status of this number was written
+  Writing : ℕ → Sort
+
+abbrev pub sort_of : Status → Sort
+sort_of Done = Success
+sort_of Usage = Refusal true
+sort_of Memory = Shortage
+sort_of (ReadFault name) = Reading name
+sort_of (TreeFault first) = Calls (first ∷ [])
+sort_of (WriteFault held) = Writing held
+sort_of (Missing name) = Refusal false
+sort_of (BadBuffer name line cause) = Refusal false
+sort_of (Faulty line cause) = Refusal false
+sort_of (Unconfirmed line path) = Refusal false
+sort_of (Stale line) = Refusal false
+sort_of Pending = Refusal true
+sort_of (RolledBack first) = Calls (first ∷ [])
+sort_of (Unfinished first second) = Calls (first ∷ second ∷ [])
+sort_of (Unclean first) = Calls (first ∷ [])
+sort_of (BadJournal offset) = Refusal true
+sort_of (Foreign name) = Refusal false
+sort_of (TooLarge what number) = Refusal false
+sort_of (Strange step) = Encounter
 
 -- whether the text is written without memory
+abbrev pub has_fixed_text_of : Sort → Bool
+has_fixed_text_of Success = true
+has_fixed_text_of (Refusal fixed) = fixed
+has_fixed_text_of Encounter = true
+has_fixed_text_of Shortage = true
+has_fixed_text_of (Reading name) = false
+has_fixed_text_of (Calls calls) = true
+has_fixed_text_of (Writing held) = true
+
 abbrev pub has_fixed_text : Status → Bool
-has_fixed_text Done = true
-has_fixed_text Usage = true
-has_fixed_text Memory = true
-has_fixed_text (ReadFault name) = false
-has_fixed_text (TreeFault first) = true
-has_fixed_text (WriteFault held) = true
-has_fixed_text (Missing name) = false
-has_fixed_text (BadBuffer name line cause) = false
-has_fixed_text (Faulty line cause) = false
-has_fixed_text (Unconfirmed line path) = false
-has_fixed_text (Stale line) = false
-has_fixed_text Pending = true
-has_fixed_text (TooLarge what number) = false
-has_fixed_text (NotBuilt line) = false
+has_fixed_text status = has_fixed_text_of (sort_of status)
 
--- a fact for want of memory, for a failed call of the tree, for a failed read of a name, and for each other status
-abbrev pub ByCause : Status → Type 0 → (CallName → Type 0) → (List ℕ → Type 0) → Type 0 → Type 0
-ByCause Done M F G R = R
-ByCause Usage M F G R = R
-ByCause Memory M F G R = M
-ByCause (ReadFault name) M F G R = G name
-ByCause (TreeFault first) M F G R = F first
-ByCause (WriteFault held) M F G R = R
-ByCause (Missing name) M F G R = R
-ByCause (BadBuffer name line cause) M F G R = R
-ByCause (Faulty line cause) M F G R = R
-ByCause (Unconfirmed line path) M F G R = R
-ByCause (Stale line) M F G R = R
-ByCause Pending M F G R = R
-ByCause (TooLarge what number) M F G R = R
-ByCause (NotBuilt line) M F G R = R
+-- given before the last line is written, and not Done
+abbrev pub IsRefusalOf : Sort → Type 0
+IsRefusalOf Success = ⊥
+IsRefusalOf (Refusal fixed) = Unit {0}
+IsRefusalOf Encounter = Unit {0}
+IsRefusalOf Shortage = Unit {0}
+IsRefusalOf (Reading name) = Unit {0}
+IsRefusalOf (Calls calls) = Unit {0}
+IsRefusalOf (Writing held) = ⊥
 
--- a status that is given before the last line is written, and that isn't Done
 abbrev pub IsRefusal : Status → Type 0
-IsRefusal Done = ⊥
-IsRefusal Usage = Unit {0}
-IsRefusal Memory = Unit {0}
-IsRefusal (ReadFault name) = Unit {0}
-IsRefusal (TreeFault first) = Unit {0}
-IsRefusal (WriteFault held) = ⊥
-IsRefusal (Missing name) = Unit {0}
-IsRefusal (BadBuffer name line cause) = Unit {0}
-IsRefusal (Faulty line cause) = Unit {0}
-IsRefusal (Unconfirmed line path) = Unit {0}
-IsRefusal (Stale line) = Unit {0}
-IsRefusal Pending = Unit {0}
-IsRefusal (TooLarge what number) = Unit {0}
-IsRefusal (NotBuilt line) = Unit {0}
+IsRefusal status = IsRefusalOf (sort_of status)
+
+-- the same, where all was read
+abbrev pub IsTreeRefusalOf : Sort → Type 0
+IsTreeRefusalOf Success = ⊥
+IsTreeRefusalOf (Refusal fixed) = Unit {0}
+IsTreeRefusalOf Encounter = Unit {0}
+IsTreeRefusalOf Shortage = Unit {0}
+IsTreeRefusalOf (Reading name) = ⊥
+IsTreeRefusalOf (Calls calls) = Unit {0}
+IsTreeRefusalOf (Writing held) = ⊥
+
+abbrev pub IsTreeRefusal : Status → Type 0
+IsTreeRefusal status = IsTreeRefusalOf (sort_of status)
+
+-- given before the last line is written
+abbrev pub IsDecisionOf : Sort → Type 0
+IsDecisionOf Success = Unit {0}
+IsDecisionOf (Refusal fixed) = Unit {0}
+IsDecisionOf Encounter = Unit {0}
+IsDecisionOf Shortage = Unit {0}
+IsDecisionOf (Reading name) = Unit {0}
+IsDecisionOf (Calls calls) = Unit {0}
+IsDecisionOf (Writing held) = ⊥
+
+-- a fact for want of memory, for failed calls of the tree, for a failed read of a name, and for each other status
+abbrev pub BySort : Sort → Type 0 → (List CallName → Type 0) → (List ℕ → Type 0) → Type 0 → Type 0
+BySort Success M F G R = R
+BySort (Refusal fixed) M F G R = R
+BySort Encounter M F G R = R
+BySort Shortage M F G R = M
+BySort (Reading name) M F G R = G name
+BySort (Calls calls) M F G R = F calls
+BySort (Writing held) M F G R = R
+
+abbrev pub ByCause : Status → Type 0 → (List CallName → Type 0) → (List ℕ → Type 0) → Type 0 → Type 0
+ByCause status M F G R = BySort (sort_of status) M F G R
+
+-- ---- What failed outside, and what was changed, as a status tells that was decided.
+
+abbrev pub with_faults : List CallName → Faults → Faults
+with_faults [] f = f
+with_faults (call ∷ calls) f = with_faults calls (with_fault call f)
+
+-- the failed calls of the tree: none but what it names
+abbrev pub calls_behind : Sort → Faults → Faults
+calls_behind Success f = f
+calls_behind (Refusal fixed) f = f
+calls_behind Encounter f = f
+calls_behind Shortage f = f
+calls_behind (Reading name) f = f
+calls_behind (Calls calls) f = with_faults calls f
+calls_behind (Writing held) f = f
+
+-- how many reads had failed before and behind: no more but what it names. Want of memory may stand for a failed read, whose text has to
+-- be made.
+abbrev pub ReadsBehind : Sort → ℕ → ℕ → Type 0
+ReadsBehind Success old new = new ≡ old
+ReadsBehind (Refusal fixed) old new = new ≡ old
+ReadsBehind Encounter old new = new ≡ old
+ReadsBehind Shortage old new = (new ≡ old) ⊎ (new ≡ raised old)
+ReadsBehind (Reading name) old new = new ≡ raised old
+ReadsBehind (Calls calls) old new = new ≡ old
+ReadsBehind (Writing held) old new = new ≡ old
+
+-- the name of the last failed read
+abbrev pub LastReadBehind : Sort → Option (List ℕ) → Type 0
+LastReadBehind Success last = Unit {0}
+LastReadBehind (Refusal fixed) last = Unit {0}
+LastReadBehind Encounter last = Unit {0}
+LastReadBehind Shortage last = Unit {0}
+LastReadBehind (Reading name) last = last ≡ Some name
+LastReadBehind (Calls calls) last = Unit {0}
+LastReadBehind (Writing held) last = Unit {0}
+
+-- no changing call was done behind a refusal, want of memory or a failed read
+abbrev pub IsKeptBehind : Sort → History → History → Type 0
+IsKeptBehind Success old new = Unit {0}
+IsKeptBehind (Refusal fixed) old new = new ≡ old
+IsKeptBehind Encounter old new = Unit {0}
+IsKeptBehind Shortage old new = new ≡ old
+IsKeptBehind (Reading name) old new = new ≡ old
+IsKeptBehind (Calls calls) old new = Unit {0}
+IsKeptBehind (Writing held) old new = Unit {0}

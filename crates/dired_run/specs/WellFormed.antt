@@ -1,10 +1,14 @@
 -- What a run can carry out.
-use Rattle.std.specs.Prelude.{◌≡◌, ◌⊎◌, ◌≤◌, ℕ, Bool, List, length, Some, None, Ok}
+use Rattle.std.specs.Prelude.{◌≡◌, ◌⊎◌, ◌≤◌, ◌^◌, ℕ, Bool, List, length, Some, None, Ok}
 use Rattle.dired_text.specs.Paths.{Names}
 use Rattle.tree_core.specs.declared.changes.Changes.TheVariants.{Edits}
 use Rattle.tree_core.specs.declared.changes.Confirmed.{Confirmed}
 use Rattle.tree_core.specs.declared.edit.Edit.{Edit}
-use Rattle.tree_core.specs.FileTree.{FileTree}
+use Rattle.tree_core.specs.declared.node.Node.{Node}
+use Rattle.tree_core.specs.FileTree.{FileTree, IsAbsent, IsTree}
+use Rattle.commit_states.specs.Interrupted.{IsInterrupted}
+use Rattle.commit_steps.specs.declared.step.Step.{Step}
+use Rattle.commit_steps.specs.Staging.{staging}
 use Rattle.listing_text.specs.declared.switches.Switches.{Switches}
 use Rattle.subdir_list.specs.Listings.{first_other}
 use Rattle.wdired_buffer.specs.declared.line.BufferLine.{BufferLine}
@@ -12,22 +16,14 @@ use Rattle.wdired_buffer.specs.Buffer.{buffer_of}
 use Rattle.wdired_buffer.specs.Edits.{Asks, edits_of}
 use Rattle.command_words.specs.declared.command.Command.TheVariants as command
 use Rattle.command_words.specs.Commands.{command_of}
-use Rattle.edit_words.specs.declared.counts.Counts.{Counts}
-use Rattle.edit_words.specs.Counting.{counts_of}
 use Rattle.edit_words.specs.Rows.{rows}
-use Rattle.edit_words.specs.Sight.{sight_of}
 use Rattle.edit_words.specs.WellFormed.{CanBeMade, max_changes}
 use Rattle.dired_run.specs.Inputs.{Files, max_buffer_bytes}
-
--- at most one new path, and nothing else
-abbrev pub IsOneNameAtMost : Counts → Type 0
-IsOneNameAtMost c = (c.renamed ≤ 1) × (c.retargeted ≡ 0) × (c.modes ≡ 0) × (c.replaced ≡ 0) × (c.made ≡ 0) × (c.removed ≡ 0) × (c.created ≡ 0)
 
 -- edits that the tree allows, with these confirmations
 pub record AreAllowed (edits : List Edit) (confirmed : Confirmed) (t : FileTree) : Type 0 where
   pub few : length edits ≤ max_changes
   pub can_be_made : CanBeMade t confirmed (rows (Edits edits))
-  pub one_name : IsOneNameAtMost (counts_of (sight_of t) (rows (Edits edits)))
 
 -- The words are those of a commit, both inputs are there and within the limit, BEFORE is a buffer, and AFTER asks for edits that
 -- the tree allows. Names may be emptied.
@@ -56,5 +52,18 @@ pub record CanList (words : List (List ℕ)) (t : FileTree) : Type 0 where
   pub words_are : command_of words ≡ Ok (command.List switches dirs)
   pub stand : first_other t dirs ≡ None
 
+-- The words are those of a recovery, and the tree may stand where a commit was stopped.
+pub record CanRecover (words : List (List ℕ)) (t : FileTree) : Type 0 where
+  pub back : Bool
+  pub steps : List Step
+  pub old : FileTree
+  pub new : FileTree
+  pub fresh : List Node
+  pub words_are : command_of words ≡ Ok (command.Recover back)
+  pub tree : IsTree old
+  pub unstaged : IsAbsent old staging
+  pub few : length fresh ≤ 2 ^ 32
+  pub interrupted : IsInterrupted steps old new fresh t
+
 abbrev pub IsWellFormed : List (List ℕ) → Files → FileTree → Type 0
-IsWellFormed words files t = CanCommit words files t ⊎ CanList words t
+IsWellFormed words files t = CanCommit words files t ⊎ (CanList words t ⊎ CanRecover words t)

@@ -20,7 +20,8 @@ pub fn read_input<H: Shelf>(alloc: Global, shelf: &mut H, name: &str) -> Result<
     ensures read { H.Tells →
         let input = input_of (H.files shelf.old) name.now in
         MatchResult result (λ bytes. input ≡ Ok bytes) (λ status. ByCause status
-        (Unit {0}) (λ _. ⊥) (λ failed. H.last_failed shelf.new ≡ Some failed) (input ≡ Err status)) }
+        (Unit {0}) (λ _. ⊥) (λ failed. H.last_failed shelf.new ≡ Some failed)
+        (input ≡ Err status)) }
     ensures files { H.Tells → H.files shelf.new ≡ H.files shelf.old }
     ensures count { let same = H.faults shelf.new ≡ H.faults shelf.old in
         MatchResult result (λ _. same) (λ status. ByCause status

@@ -4,7 +4,9 @@
 mod commit;
 mod inputs;
 mod listing;
+mod output;
 mod program;
+mod recovery;
 mod reports;
 mod requests;
 mod status;

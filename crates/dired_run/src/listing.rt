@@ -1,14 +1,15 @@
 // The listing that a command prints.
-ghost use Rattle.std.specs.Prelude.{◌≡◌, MatchResult, IfOk, IfErr};
+ghost use Rattle.std.specs.Prelude.{◌≡◌, IfErr, ℕ, List, Option};
 ghost use Rattle.tree_core.specs.History.{current_tree};
-ghost use Rattle.tree_core.specs.Faults.{with_fault};
 ghost use Rattle.subdir_list.specs.Listings.{first_other};
-ghost use Rattle.dired_run.specs.Statuses.{ByCause, IsRefusal};
-ghost use Rattle.dired_run.specs.Verdicts.{Refuses, IsOutput, on_dirs, status_of};
-ghost use Rattle.dired_run.specs.declared.status.Status.TheVariants.{Done};
+ghost use Rattle.dired_run.specs.Reports.{decided_of, output_of};
+ghost use Rattle.dired_run.specs.Runs.{Decides, outside};
+ghost use Rattle.dired_run.specs.Statuses.{IsTreeRefusal, calls_behind, sort_of};
+ghost use Rattle.dired_run.specs.Verdicts.{on_dirs};
 
 use crate::Status;
-use dired_text::{Bytes, Path};
+use crate::output::Output;
+use dired_text::Path;
 use listing_text::Switches;
 use std::alloc::Global;
 use subdir_list::{ListEnd, list_dirs};
@@ -23,24 +24,23 @@ pub fn list<T: Tree>(
     tree: &mut T,
     switches: &Switches,
     dirs: &[Path],
-) -> Result<Bytes, Status>
-    ensures done { T.Tells →
+) -> Result<Output, Status>
+    // Whatever was read before.
+    ensures decides { T.Tells →
+        (reads reads_now : ℕ) (last last_now : Option (List ℕ)) → reads_now ≡ reads →
         let old = current_tree (T.history tree.old) in
-        let v = on_dirs switches.now dirs.now (first_other old dirs.now) in
-        IfOk result (λ text. (status_of v ≡ Done) × IsOutput v old (T.fields tree.old) text) }
-    ensures refused { T.Tells →
-        let old = current_tree (T.history tree.old) in
-        IfErr result (λ status. ByCause status
-        (Unit {0}) (λ first. T.before_failed tree.new ≡ old) (λ _. ⊥)
-        (on_dirs switches.now dirs.now (first_other old dirs.now) ≡ Refuses status)) }
-    ensures history { T.Tells → T.history tree.new ≡ T.history tree.old }
-    ensures cause { let same = T.faults tree.new ≡ T.faults tree.old in
-        MatchResult result (λ _. same) (λ status. ByCause status
-        same (λ first. T.faults tree.new ≡ with_fault first (T.faults tree.old)) (λ _. ⊥) same) }
-    ensures end { IfErr result IsRefusal }
+        let before = outside (T.history tree.old) (T.fields tree.old) (T.faults tree.old)
+        (T.before_failed tree.old) reads last in
+        let now = outside (T.history tree.new) (T.fields tree.new) (T.faults tree.new)
+        (T.before_failed tree.new) reads_now last_now in
+        Decides (on_dirs switches.now dirs.now (first_other old dirs.now)) before now
+        (decided_of result) (output_of result) }
+    ensures calls { T.faults tree.new ≡
+        calls_behind (sort_of (decided_of result)) (T.faults tree.old) }
+    ensures end { IfErr result IsTreeRefusal }
 {
     match list_dirs(alloc, tree, dirs, switches) {
-        Ok(text) => Ok(text),
+        Ok(text) => Ok(Output::Lines(text)),
         Err(ListEnd::NotDirectory(dir)) => match dir.text() {
             Ok(name) => Err(Status::Missing { name }),
             Err(_) => Err(Status::Memory),

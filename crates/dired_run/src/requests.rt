@@ -43,7 +43,8 @@ pub fn asked_for<H: Shelf>(
     ensures asked { H.Tells →
         let request = request_of (H.files shelf.old) before.now after.now confirmed in
         MatchResult result (λ asked. request ≡ Ok asked) (λ status. ByCause status
-        (Unit {0}) (λ _. ⊥) (λ failed. H.last_failed shelf.new ≡ Some failed) (request ≡ Err status)) }
+        (Unit {0}) (λ _. ⊥) (λ failed. H.last_failed shelf.new ≡ Some failed)
+        (request ≡ Err status)) }
     ensures can { IfOk result (λ request. AreAsked (Edits request.edits)) }
     ensures count { let same = H.faults shelf.new ≡ H.faults shelf.old in
         MatchResult result (λ _. same) (λ status. ByCause status
@@ -77,8 +78,10 @@ fn compare(
 ) -> Result<Request, Status>
     requires before { length before.now ≤ max_buffer_bytes }
     requires after { length after.now ≤ max_buffer_bytes }
-    ensures asked { MatchResult result (λ asked. asked_by confirmed name.now before.now after.now ≡ Ok asked)
-        (λ status. ByCause status (Unit {0}) (λ _. ⊥) (λ _. ⊥) (asked_by confirmed name.now before.now after.now ≡ Err status)) }
+    ensures asked { MatchResult result
+        (λ asked. asked_by confirmed name.now before.now after.now ≡ Ok asked)
+        (λ status. ByCause status (Unit {0}) (λ _. ⊥) (λ _. ⊥)
+        (asked_by confirmed name.now before.now after.now ≡ Err status)) }
     ensures can { IfOk result (λ request. AreAsked (Edits request.edits)) }
     ensures end { IfErr result IsRefusal }
 {

@@ -2,9 +2,9 @@
 ghost use Rattle.std.specs.Prelude.{◌≡◌, ◌++◌, IfOk, OnOk, codes, decimal, false};
 ghost use Rattle.std.specs.String.{string_bytes};
 ghost use Rattle.dired_text.specs.Escape.{escaped};
-ghost use Rattle.dired_run.specs.Statuses.{call_text as call_text_of, cause_text as cause_text_of, line_text as line_text_of, path_text as path_text_of, field_text as field_text_of, buffer_text, bad_line_text as bad_line_text_of};
+ghost use Rattle.dired_run.specs.Statuses.{call_failed_text as call_failed_text_of, number_text as number_text_of, text_of as text_of_status, call_text as call_text_of, cause_text as cause_text_of, line_text as line_text_of, path_text as path_text_of, field_text as field_text_of, buffer_text, bad_line_text as bad_line_text_of};
 ghost use Rattle.dired_run.specs.Faults.{cause_of_line, status_of_fault};
-ghost use Rattle.dired_run.specs.declared.status.Status.TheVariants.{Faulty as is_faulty};
+ghost use Rattle.dired_run.specs.declared.status.Status.TheVariants.{Faulty as is_faulty, Unfinished};
 
 use dired_text::{Memory, Path, Text, escape};
 use edit_check::CheckFault;
@@ -111,14 +111,36 @@ pub enum Status {
     },
     /// A commit is unfinished.
     Pending,
+    /// This call of a commit failed, and every change was taken back.
+    RolledBack {
+        first: CallName,
+    },
+    /// This call of a commit failed, and then the second one as its changes were taken back. A recovery leads to the old or to
+    /// the edited tree.
+    Unfinished {
+        first: CallName,
+        second: CallName,
+    },
+    /// The edits were made, but this call failed as the commit was ended. A recovery clears away what is left.
+    Unclean {
+        first: CallName,
+    },
+    /// The journal of an unfinished commit is unreadable from this byte on, counted from 0.
+    BadJournal {
+        offset: u64,
+    },
+    /// What stands under this name, in the staging directory or as that itself, is of no commit.
+    Foreign {
+        name: Text,
+    },
+    /// The tree is neither before nor after the step of this number of an unfinished commit, counted from 0.
+    Strange {
+        step: u64,
+    },
     /// A quantity is above its limit. `number` is the limit plus 1 for the bytes of a buffer, and else the quantity.
     TooLarge {
         what: Counted,
         number: u64,
-    },
-    /// This line, counted from 1, asks for something that the program can't do yet.
-    NotBuilt {
-        line: u32,
     },
 }
 
@@ -142,8 +164,13 @@ impl Status {
             Status::Unconfirmed { .. } => 9,
             Status::Stale { .. } => 10,
             Status::Pending => 11,
+            Status::RolledBack { .. } => 12,
+            Status::Unfinished { .. } => 13,
+            Status::Unclean { .. } => 14,
+            Status::BadJournal { .. } => 15,
+            Status::Foreign { .. } => 16,
             Status::TooLarge { .. } => 18,
-            Status::NotBuilt { .. } => 23,
+            Status::Strange { .. } => 21,
         }
     }
 
@@ -159,8 +186,8 @@ impl Status {
                 | Status::Faulty { .. }
                 | Status::Unconfirmed { .. }
                 | Status::Stale { .. }
+                | Status::Foreign { .. }
                 | Status::TooLarge { .. }
-                | Status::NotBuilt { .. }
         )
     }
 
@@ -173,10 +200,20 @@ impl Status {
             Status::Usage => Ok(String::from_str(alloc, USAGE)?),
             Status::Memory => Ok(String::from_str(alloc, OUT_OF_MEMORY)?),
             Status::ReadFault { name } => named_text(alloc, "cannot read ", name),
-            Status::TreeFault { first } => Ok(format!(in alloc;
-                "dired: {} failed; nothing was decided\n",
-                call_text(*first)
-            )?),
+            Status::TreeFault { first } => call_failed_text(
+                alloc,
+                "dired: ",
+                *first,
+                NOTHING_DECIDED,
+            ),
+            Status::RolledBack { first } => call_failed_text(alloc, "dired: ", *first, TAKEN_BACK),
+            Status::Unfinished { first, second } => unfinished_text(alloc, *first, *second),
+            Status::Unclean { first } => call_failed_text(
+                alloc,
+                COMMITTED_BUT,
+                *first,
+                RUN_RECOVER,
+            ),
             Status::Missing { name } => named_text(alloc, "no such input: ", name),
             Status::BadBuffer { name, line, cause } => bad_line_text(alloc, name, *line, *cause),
             Status::Faulty { line, cause } => {
@@ -186,10 +223,12 @@ impl Status {
             Status::Unconfirmed { line, path } => victim_text(alloc, *line, path),
             Status::Pending => Ok(String::from_str(alloc, PENDING)?),
             Status::Stale { line } => line_text(alloc, *line, "the file is not as shown"),
+            Status::BadJournal { offset } => number_text(alloc, UNREADABLE_AT, *offset, "\n"),
+            Status::Foreign { name } => named_text(alloc, "not of this program: ", name),
+            Status::Strange { step } => number_text(alloc, STEP, *step, NEITHER),
             Status::TooLarge { what, number } => {
                 Ok(format!(in alloc; "dired: too large: {} {number}\n", what.name())?)
             }
-            Status::NotBuilt { line } => line_text(alloc, *line, "not built yet"),
         }
     }
 }
@@ -202,6 +241,20 @@ pub const OUT_OF_MEMORY: &str = "dired: out of memory\n";
 pub const PENDING: &str = "dired: an unfinished commit stands; run recover\n";
 
 pub const NOTHING_DECIDED: &str = " failed; nothing was decided\n";
+
+pub const TAKEN_BACK: &str = " failed; every change was taken back\n";
+
+pub const COMMITTED_BUT: &str = "dired: committed, but ";
+
+pub const THEN: &str = " failed, then ";
+
+pub const RUN_RECOVER: &str = " failed; run recover\n";
+
+pub const UNREADABLE_AT: &str = "dired: journal unreadable at byte ";
+
+pub const STEP: &str = "dired: step ";
+
+pub const NEITHER: &str = ": the tree is neither before nor after it\n";
 
 /// The name of a call as texts have it.
 pub fn call_text(call: CallName) -> &'static str
@@ -226,9 +279,39 @@ pub fn call_text(call: CallName) -> &'static str
     }
 }
 
+// What is said of a failed call.
+fn call_failed_text(
+    alloc: Global,
+    said: &str,
+    call: CallName,
+    behind: &str,
+) -> Result<String, Memory>
+    ensures { IfOk result (λ t. string_bytes t ≡ call_failed_text_of said.now call behind.now) }
+{
+    Ok(format!(in alloc; "{said}{}{behind}", call_text(call))?)
+}
+
+// What is said of a number.
+fn number_text(alloc: Global, said: &str, number: u64, behind: &str) -> Result<String, Memory>
+    ensures { IfOk result (λ t. string_bytes t ≡ number_text_of said.now number behind.now) }
+{
+    Ok(format!(in alloc; "{said}{number}{behind}")?)
+}
+
+// What is said of a failed call, and of another one on the way back.
+fn unfinished_text(alloc: Global, first: CallName, second: CallName) -> Result<String, Memory>
+    ensures { IfOk result (λ t. string_bytes t ≡ text_of_status (Unfinished first second)) }
+{
+    let mut text = call_failed_text(alloc, "dired: ", first, THEN)?;
+    let rest = call_failed_text(alloc, "", second, RUN_RECOVER)?;
+    text.push_str(rest.as_str())?;
+    Ok(text)
+}
+
 // What is said of an input, behind which its name stands.
 fn named_text(alloc: Global, said: &str, name: &Text) -> Result<String, Memory>
-    ensures { IfOk result (λ t. string_bytes t ≡ codes "dired: " ++ said.now ++ escaped false name.now ++ codes "\n") }
+    ensures { IfOk result (λ t. string_bytes t ≡
+        codes "dired: " ++ said.now ++ escaped false name.now ++ codes "\n") }
 {
     let name = escape(alloc, name.as_str(), false)?;
     Ok(format!(in alloc; "dired: {said}{}\n", name.as_str())?)
@@ -236,7 +319,8 @@ fn named_text(alloc: Global, said: &str, name: &Text) -> Result<String, Memory>
 
 // What is said of a line that would replace what stands at a path.
 fn victim_text(alloc: Global, line: u32, path: &Path) -> Result<String, Memory>
-    ensures { IfOk result (λ t. string_bytes t ≡ line_text_of line (path_text_of path.now ++ codes " would be replaced")) }
+    ensures { IfOk result (λ t. string_bytes t ≡
+        line_text_of line (path_text_of path.now ++ codes " would be replaced")) }
 {
     let victim = path_text(alloc, path)?;
     let said = format!(in alloc; "{} would be replaced", victim.as_str())?;
@@ -270,7 +354,8 @@ fn bad_line_text(
 
 // Pushes the number of a line behind the name of its input.
 fn push_line(text: &mut String, line: u32) -> Result<(), Memory>
-    ensures { OnOk result (string_bytes text.new ≡ string_bytes text.old ++ codes ", line " ++ decimal line ++ codes ": ") }
+    ensures { OnOk result (string_bytes text.new ≡
+        string_bytes text.old ++ codes ", line " ++ decimal line ++ codes ": ") }
 {
     let alloc = *text.allocator();
     let piece = format!(in alloc; ", line {line}: ")?;

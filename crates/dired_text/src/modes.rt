@@ -128,32 +128,3 @@ fn third_bits(class: &Class, letter: u8) -> Option<u16>
         letter_bit(class.execute, b'x', letter)
     }
 }
-
-#[cfg(test)]
-mod tests {
-    use super::*;
-
-    #[test]
-    fn shows_and_reads_modes(rt: HostRuntime) {
-        let shown = [
-            (0o644, b"rw-r--r--"),
-            (0o755, b"rwxr-xr-x"),
-            (0o4755, b"rwsr-xr-x"),
-            (0o4644, b"rwSr--r--"),
-            (0o2755, b"rwxr-sr-x"),
-            (0o2745, b"rwxr-Sr-x"),
-            (0o1777, b"rwxrwxrwt"),
-            (0o1776, b"rwxrwxrwT"),
-            (0, b"---------"),
-            (0o7777, b"rwsrwsrwt"),
-        ];
-        for (mode, text) in shown {
-            assert!(rt; mode <= 0o7777);
-            assert!(rt; mode_text(mode).as_slice() == text.as_slice(), "at {mode}");
-            assert_eq!(rt; read_mode(text), Some(mode));
-        }
-        for text in ["rw-r--r-", "rw-r--r--x", "xwrxwrxwr", "rwtr--r--", ""] {
-            assert_eq!(rt; read_mode(text.as_bytes()), None, "at {text}");
-        }
-    }
-}

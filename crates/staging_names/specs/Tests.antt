@@ -153,9 +153,9 @@ unfoldable pub foreign_place : List found.Found → Option ℕ
 foreign_place fs = option_or (of_two_journals fs) (option_or (unfit fs) (option_or (second_marker fs) (unmarked fs)))
 
 -- what stands is told exactly where nothing is foreign, and else the place of the first foreign name
-abbrev pub IsSortedOut : List found.Found → Result standing.Standing ℕ → Type 0
-IsSortedOut fs (Ok s) = (foreign_place fs ≡ None) × (s ≡ standing_of fs)
-IsSortedOut fs (Err place) = foreign_place fs ≡ Some place
+abbrev pub TellsStanding : List found.Found → Result standing.Standing ℕ → Type 0
+TellsStanding fs (Ok s) = (foreign_place fs ≡ None) × (s ≡ standing_of fs)
+TellsStanding fs (Err place) = foreign_place fs ≡ Some place
 
 -- A marker counts more steps than there are.
 abbrev pub counts_more : Option marker.Marker → ℕ → Bool

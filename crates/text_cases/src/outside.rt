@@ -30,18 +30,16 @@ fn calls_of(alloc: Global, field: &str) -> Result<Vec<u64>, RowFault> {
 }
 
 // Files are written as `NAME=BYTES`, joined by `,`, and reads as `NAME:LIMIT`.
-fn shelf(
-    alloc: Global,
-    fails: &str,
-    files: &str,
-    reads: &[&str],
-) -> Result<String, RowFault> {
+fn shelf(alloc: Global, fails: &str, files: &str, reads: &[&str]) -> Result<String, RowFault> {
     let mut all = Vec::new(alloc);
     for file in files.split(',') {
         let Some((name, bytes)) = file.split_once('=') else {
             return Err(RowFault::Bad);
         };
-        all.push((text_of(alloc, name)?, Bytes::from_vec(bytes_of(alloc, bytes)?)))?;
+        all.push((
+            text_of(alloc, name)?,
+            Bytes::from_vec(bytes_of(alloc, bytes)?),
+        ))?;
     }
     let mut shelf = MemShelf::new(alloc, all, calls_of(alloc, fails)?)?;
     let mut answer = String::new(alloc);
@@ -97,7 +95,8 @@ fn shell(alloc: Global, fails: &str, exit: &str, texts: &[&str]) -> Result<Strin
     for text in texts {
         push_run(alloc, &mut answer, &mut shell, &text_of(alloc, text)?)?;
     }
-    push(&mut answer, "ran")?;
+    let behind = format!(in alloc; " short {} ran", shell.short())?;
+    answer.push_str(behind.as_str())?;
     for text in shell.texts() {
         push(&mut answer, text.as_str())?;
     }

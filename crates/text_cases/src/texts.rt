@@ -39,6 +39,7 @@ impl Texts {
             ["quote" | "commands", ..] => shell::answer(self.alloc, fields),
             ["edits", before, after] => buffers::answer(self.alloc, before, after),
             ["journal", bytes] => journals::answer(self.alloc, bytes),
+            ["long-journal", count, length] => journals::long(self.alloc, count, length),
             ["shelf" | "sink" | "shell" | "patterns", ..] => outside::answer(self.alloc, fields),
             ["settings", text] => settings::read(self.alloc, text, &mut self.rules),
             ["omitted" | "guess", ..] => settings::answer(self.alloc, &self.rules, fields),

@@ -1,5 +1,6 @@
 // What a call answered, and how it is printed.
-use dired_text::{Bytes, Failed, Name};
+use dired_text::{Bytes, Failed, Name, PatternsError};
+use regex::Regex;
 use std::io;
 use tree_core::{Kind, LookEnd, Meta, ReadEnd};
 
@@ -18,6 +19,10 @@ pub enum Answer {
     Meta(Meta),
     Names(Vec<Name>),
     Bytes(Bytes),
+    /// The number that a text of the shell exited with.
+    Exit(u8),
+    /// A pattern was refused.
+    Refused,
 }
 
 impl Answer {
@@ -46,6 +51,23 @@ impl Answer {
         }
     }
 
+    /// That of the shell.
+    pub fn of_shell(answer: Result<u8, Failed>) -> Self {
+        match answer {
+            Ok(number) => Answer::Exit(number),
+            Err(_) => Answer::Failed,
+        }
+    }
+
+    /// That of a pattern.
+    pub fn of_pattern(answer: Result<Regex, PatternsError>) -> Self {
+        match answer {
+            Ok(_) => Answer::Done,
+            Err(PatternsError::Refused) => Answer::Refused,
+            Err(PatternsError::Memory) => Answer::Memory,
+        }
+    }
+
     /// Prints the line of the call and the answer behind it.
     pub fn print(&self, rt: HostRuntime, line: &str) -> io::Result<()> {
         match self {
@@ -67,6 +89,8 @@ impl Answer {
                 let count = bytes.as_slice().len();
                 println!(rt; "{line}: {count} bytes")
             }
+            Answer::Exit(number) => println!(rt; "{line}: exit {number}"),
+            Answer::Refused => println!(rt; "{line}: refused"),
         }
     }
 }

@@ -6,6 +6,7 @@ ghost use Rattle.tree_core.specs.History.{current_tree};
 use crate::stop::Stop;
 use crate::trees::text_of;
 use crate::words::{number_of, path_of};
+use case_tables::call_text;
 use dired_text::Path;
 use tree_core::{CallName, Kind, LookEnd, Meta, ReadEnd, Tree};
 
@@ -13,21 +14,7 @@ use tree_core::{CallName, Kind, LookEnd, Meta, ReadEnd, Tree};
 pub fn call_word(name: Option<CallName>) -> &'static str {
     match name {
         None => "none",
-        Some(CallName::Kind) => "kind",
-        Some(CallName::Mode) => "mode",
-        Some(CallName::IsEmpty) => "is_empty",
-        Some(CallName::Meta) => "meta",
-        Some(CallName::Names) => "names",
-        Some(CallName::Read) => "read",
-        Some(CallName::MakeDir) => "make_dir",
-        Some(CallName::MakeLink) => "make_link",
-        Some(CallName::MakeHard) => "make_hard",
-        Some(CallName::WriteFile) => "write_file",
-        Some(CallName::Rename) => "rename",
-        Some(CallName::SetMode) => "set_mode",
-        Some(CallName::Remove) => "remove",
-        Some(CallName::RemoveDir) => "remove_dir",
-        Some(CallName::Sync) => "sync",
+        Some(call) => call_text(call),
     }
 }
 

@@ -1,30 +1,42 @@
-use Rattle.std.proofs.Common.{inl, refl, sym, ◌∙◌}
-use Rattle.tree_core.proofs.Moments.{unmoved}
-use Rattle.dired_run.proofs.CarryLemmas.{verdict_is, can_behind, same_edits, done_behind, refused_behind, moments_behind}
+use Rattle.std.proofs.Common.{refl, sym, ◌∙◌}
+use Rattle.std.proofs.lemmas.Result.{err_from_is_err_and}
+use Rattle.dired_run.specs.Reports.{decided_of, output_of}
+use Rattle.dired_run.specs.Runs.{no_memory, outside}
+use Rattle.dired_run.proofs.CarryLemmas.{check_answers, check_answers_calls, check_ends, commit_answers_calls, commit_decides, stands_behind}
 use Rattle.dired_run.proofs.commit.carry_out.Goals as goal
 
-pub returns-in_err-checked-clause-any_moment : goal.returns-in_err-checked-clause-any_moment
-returns-in_err-checked-clause-any_moment g c tells = unmoved _ _ _ (c.check.ensures.looked tells).history (c.requires.durable tells) (inl refl)
+pub returns-in_err-checked-clause-decides : goal.returns-in_err-checked-clause-decides
+returns-in_err-checked-clause-decides g c tells reads reads_now last last_now same =
+    let before = outside (g.T.Tree.history c.args.tree.now) (g.T.Tree.fields c.args.tree.now) (g.T.Tree.faults c.args.tree.now) (g.T.Tree.before_failed c.args.tree.now) reads last in
+    let now = outside (g.T.Tree.history c.check.new.tree) (g.T.Tree.fields c.check.new.tree) (g.T.Tree.faults c.check.new.tree) (g.T.Tree.before_failed c.check.new.tree) reads_now last_now in
+    let p = err_from_is_err_and c.from_residual.result c.from_residual.ensures.1 in
+    check_answers c.args.request c.in_err-checked.field-0.0 before now c.from_residual.result p.0 p.1 p.2 (record { looked = c.in_err-checked.ensures.looked tells; faults = c.in_err-checked.ensures.faults; looks = c.in_err-checked.ensures.looks; reads = same }) (c.in_err-checked.ensures.refused tells)
 
-pub act-requires-clause-can : goal.act-requires-clause-can
-act-requires-clause-can g c tells =
-    let edits = c.as_slice.ensures ∙ same_edits c.in-Edits.edits c.args.request.edits (sym c.in-Edits.is ∙ c.changes.ensures.changes ∙ c.in_ok-checked.ensures.keeps.0) in
-    can_behind c.args.request _ _ _ _ (c.check.ensures.looked tells).history (g.met.T.Tree.is_sound c.args.tree.now tells).tree c.requires.can (c.in_ok-checked.ensures.taken tells) (c.counts-counts.ensures ∙ c.in_ok-checked.ensures.counts tells) edits
+pub returns-in_err-checked-clause-calls : goal.returns-in_err-checked-clause-calls
+returns-in_err-checked-clause-calls g c =
+    let p = err_from_is_err_and c.from_residual.result c.from_residual.ensures.1 in
+    check_answers_calls c.in_err-checked.field-0.0 _ _ c.from_residual.result p.0 p.1 p.2 c.in_err-checked.ensures.faults
 
-pub returns-clause-done : goal.returns-clause-done
-returns-clause-done g c tells =
-    let edits = c.as_slice.ensures ∙ same_edits c.in-Edits.edits c.args.request.edits (sym c.in-Edits.is ∙ c.changes.ensures.changes ∙ c.in_ok-checked.ensures.keeps.0) in
-    let is = verdict_is c.args.request _ _ _ _ (g.met.T.Tree.is_sound c.args.tree.now tells).tree (c.in_ok-checked.ensures.taken tells) (c.counts-counts.ensures ∙ c.in_ok-checked.ensures.counts tells) edits c.as_slice-in-Edits.ensures in
-    done_behind _ _ _ _ is (c.check.ensures.looked tells).history _ _ (g.T.Tree.history c.act.new.tree) _ (c.check.ensures.looked tells).fields (c.act.ensures.done tells)
+pub returns-in_err-checked-clause-end : goal.returns-in_err-checked-clause-end
+returns-in_err-checked-clause-end g c =
+    let p = err_from_is_err_and c.from_residual.result c.from_residual.ensures.1 in
+    check_ends c.in_err-checked.field-0.0 c.from_residual.result p.0 p.1 p.2
 
-pub returns-clause-refused : goal.returns-clause-refused
-returns-clause-refused g c tells =
-    let edits = c.as_slice.ensures ∙ same_edits c.in-Edits.edits c.args.request.edits (sym c.in-Edits.is ∙ c.changes.ensures.changes ∙ c.in_ok-checked.ensures.keeps.0) in
-    let is = verdict_is c.args.request _ _ _ _ (g.met.T.Tree.is_sound c.args.tree.now tells).tree (c.in_ok-checked.ensures.taken tells) (c.counts-counts.ensures ∙ c.in_ok-checked.ensures.counts tells) edits c.as_slice-in-Edits.ensures in
-    refused_behind _ _ _ _ is (c.check.ensures.looked tells).history _ _ _ (c.act.ensures.refused tells)
+pub returns-in_default-clause-decides : goal.returns-in_default-clause-decides
+returns-in_default-clause-decides g c tells reads reads_now last last_now same = no_memory refl refl (record { history = (c.check.ensures.looked tells).history; faults = c.in_ok-checked.ensures.faults })
 
-pub returns-clause-any_moment : goal.returns-clause-any_moment
-returns-clause-any_moment g c tells =
-    let edits = c.as_slice.ensures ∙ same_edits c.in-Edits.edits c.args.request.edits (sym c.in-Edits.is ∙ c.changes.ensures.changes ∙ c.in_ok-checked.ensures.keeps.0) in
-    let is = verdict_is c.args.request _ _ _ _ (g.met.T.Tree.is_sound c.args.tree.now tells).tree (c.in_ok-checked.ensures.taken tells) (c.counts-counts.ensures ∙ c.in_ok-checked.ensures.counts tells) edits c.as_slice-in-Edits.ensures in
-    moments_behind _ _ _ _ is (c.check.ensures.looked tells).history _ (c.act.ensures.any_moment tells)
+pub commit-requires-clause-stands : goal.commit-requires-clause-stands
+commit-requires-clause-stands g c tells =
+    stands_behind _ _ _ _ (c.check.ensures.looked tells).history (g.met.T.Tree.is_sound c.args.tree.now tells).tree (c.in_ok-checked.ensures.stands_for tells) c.in_ok-checked.ensures.keeps.0
+
+pub returns-clause-decides : goal.returns-clause-decides
+returns-clause-decides g c tells reads reads_now last last_now same =
+    let before = outside (g.T.Tree.history c.args.tree.now) (g.T.Tree.fields c.args.tree.now) (g.T.Tree.faults c.args.tree.now) (g.T.Tree.before_failed c.args.tree.now) reads last in
+    let now = outside (g.T.Tree.history c.commit.new.tree) (g.T.Tree.fields c.commit.new.tree) (g.T.Tree.faults c.commit.new.tree) (g.T.Tree.before_failed c.commit.new.tree) reads_now last_now in
+    commit_decides c.args.request before now (g.T.Tree.history c.check.new.tree) (g.T.Tree.faults c.check.new.tree) _ _ _ _ c.commit.result (decided_of c.ended.result) (output_of c.ended.result)
+    (g.met.T.Tree.is_sound c.args.tree.now tells).tree (c.in_ok-checked.ensures.taken tells) (c.check.ensures.looked tells).history c.in_ok-checked.ensures.keeps.0
+    (c.commit.ensures.commit tells) c.in_ok-checked.ensures.faults c.commit.ensures.faults same
+    (c.counts.ensures ∙ c.in_ok-checked.ensures.counts tells) c.as_slice.ensures c.in-Ok.ensures c.ended.ensures.decided c.ended.ensures.text
+
+pub returns-clause-calls : goal.returns-clause-calls
+returns-clause-calls g c = commit_answers_calls c.commit.result _ _ _ _ c.in_ok-checked.ensures.faults c.commit.ensures.faults c.ended.ensures.decided

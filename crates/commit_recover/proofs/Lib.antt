@@ -1,0 +1,11 @@
+pub mod FoundLemmas
+pub mod EntryLemmas
+pub mod ItemLemmas
+pub mod CanLemmas
+pub mod HoldLemmas
+pub mod TaskLemmas
+pub mod RowLemmas
+pub mod RecoverLemmas
+pub mod StartLemmas
+pub mod PushLemmas
+pub mod WorkLemmas

@@ -1,0 +1,5 @@
+pub mod Underway
+pub mod Works
+pub mod Endings
+pub mod Looked
+pub mod Closing

@@ -1,0 +1,5 @@
+pub mod StartLemmas
+pub mod EndLemmas
+pub mod OneLemmas
+pub mod RowLemmas
+pub mod RowLaws

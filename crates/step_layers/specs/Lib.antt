@@ -1,0 +1,4 @@
+pub mod Order
+pub mod Layers
+pub mod Floors
+pub mod Laws

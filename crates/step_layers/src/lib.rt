@@ -1,0 +1,6 @@
+//! The steps of a commit, sorted by layer: steps of one layer name no related paths, so that they are cut into few groups.
+#![tactic(auto)]
+
+mod laws;
+
+pub use laws::{layers_are_independent, layers_keep_order, orders_lead};
