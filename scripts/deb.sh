@@ -6,6 +6,7 @@ cd "$(dirname "$(readlink -f "$0")")/.."
 version=$1
 work=$(mktemp -d)
 trap 'rm -rf "$work"' EXIT
+chmod 755 "$work"
 make -s install DESTDIR="$work" PREFIX=/usr
 mkdir "$work/DEBIAN"
 cat > "$work/DEBIAN/control" <<END
