@@ -362,6 +362,8 @@ impl Tree for MemTree {
 
     ghost faults = { λ m. (told m).faults };
 
+    ghost changes = { λ m. (told m).changes_made };
+
     ghost MayFail = { MayFailAs };
 
     ghost is_sound = { λ m tells. m.sound };
@@ -373,6 +375,7 @@ impl Tree for MemTree {
         ensures history { history_told self.new ≡ history_told self.old }
         ensures before_failed { FailedAtTold self.old self.new result }
         ensures fields { fields_told self.new ≡ fields_told self.old }
+        ensures unchanged { (told self.new).changes_made ≡ (told self.old).changes_made }
         ensures cause { HasCauseTold CallName.Kind self.old self.new result }
         ensures may_fail { OnErr result (MayFailAs CallName.Kind self.old self.new) }
         ensures scheduled { LookTold CallName.Kind (is_err result) self.old self.new }
@@ -390,6 +393,7 @@ impl Tree for MemTree {
         ensures history { history_told self.new ≡ history_told self.old }
         ensures before_failed { FailedAtTold self.old self.new result }
         ensures fields { fields_told self.new ≡ fields_told self.old }
+        ensures unchanged { (told self.new).changes_made ≡ (told self.old).changes_made }
         ensures cause { HasCauseTold CallName.Mode self.old self.new result }
         ensures may_fail { OnErr result (MayFailAs CallName.Mode self.old self.new) }
         ensures scheduled { LookTold CallName.Mode (is_err result) self.old self.new }
@@ -406,6 +410,7 @@ impl Tree for MemTree {
         ensures history { history_told self.new ≡ history_told self.old }
         ensures before_failed { FailedAtTold self.old self.new result }
         ensures fields { fields_told self.new ≡ fields_told self.old }
+        ensures unchanged { (told self.new).changes_made ≡ (told self.old).changes_made }
         ensures cause { HasCauseTold CallName.IsEmpty self.old self.new result }
         ensures may_fail { OnErr result (MayFailAs CallName.IsEmpty self.old self.new) }
         ensures scheduled { LookTold CallName.IsEmpty (is_err result) self.old self.new }
@@ -423,6 +428,7 @@ impl Tree for MemTree {
         ensures history { history_told self.new ≡ history_told self.old }
         ensures before_failed { LookFailedAtTold self.old self.new result }
         ensures fields { fields_told self.new ≡ fields_told self.old }
+        ensures unchanged { (told self.new).changes_made ≡ (told self.old).changes_made }
         ensures cause { LookHasCauseTold CallName.Meta self.old self.new result }
         ensures may_fail { IfErr result (λ end. end ≡ LookEnd.Failed → MayFailAs CallName.Meta self.old self.new) }
         ensures scheduled { LookTold CallName.Meta (look_failed result) self.old self.new }
@@ -440,6 +446,7 @@ impl Tree for MemTree {
         ensures history { history_told self.new ≡ history_told self.old }
         ensures before_failed { LookFailedAtTold self.old self.new result }
         ensures fields { fields_told self.new ≡ fields_told self.old }
+        ensures unchanged { (told self.new).changes_made ≡ (told self.old).changes_made }
         ensures cause { LookHasCauseTold CallName.Names self.old self.new result }
         ensures may_fail { IfErr result (λ end. end ≡ LookEnd.Failed → MayFailAs CallName.Names self.old self.new) }
         ensures scheduled { LookTold CallName.Names (look_failed result) self.old self.new }
@@ -457,6 +464,7 @@ impl Tree for MemTree {
         ensures history { history_told self.new ≡ history_told self.old }
         ensures before_failed { ReadFailedAtTold self.old self.new result }
         ensures fields { fields_told self.new ≡ fields_told self.old }
+        ensures unchanged { (told self.new).changes_made ≡ (told self.old).changes_made }
         ensures cause { ReadHasCauseTold CallName.Read self.old self.new result }
         ensures may_fail { IfErr result (λ end. end ≡ ReadEnd.Failed → MayFailAs CallName.Read self.old self.new) }
         ensures scheduled { LookTold CallName.Read (read_failed result) self.old self.new }
@@ -471,6 +479,7 @@ impl Tree for MemTree {
         requires { CanDo (Change.Rename from.now to.now) (tree_told self.old) }
         ensures history { PerformsTold (Change.Rename from.now to.now) self.old self.new result }
         ensures before_failed { FailedAtTold self.old self.new result }
+        ensures counted { (told self.new).changes_made ≡ raised (told self.old).changes_made }
         ensures cause { HasCauseTold CallName.Rename self.old self.new result }
         ensures may_fail { OnErr result (MayFailAs CallName.Rename self.old self.new) }
         ensures scheduled { ChangeTold CallName.Rename (Change.Rename from.now to.now) self.old self.new result }
@@ -488,6 +497,7 @@ impl Tree for MemTree {
         requires { CanDo (Change.MakeDir path.now mode) (tree_told self.old) }
         ensures history { PerformsTold (Change.MakeDir path.now mode) self.old self.new result }
         ensures before_failed { FailedAtTold self.old self.new result }
+        ensures counted { (told self.new).changes_made ≡ raised (told self.old).changes_made }
         ensures cause { HasCauseTold CallName.MakeDir self.old self.new result }
         ensures may_fail { OnErr result (MayFailAs CallName.MakeDir self.old self.new) }
         ensures scheduled { ChangeTold CallName.MakeDir (Change.MakeDir path.now mode) self.old self.new result }
@@ -502,6 +512,7 @@ impl Tree for MemTree {
         requires { CanDo (Change.MakeLink path.now target.now) (tree_told self.old) }
         ensures history { PerformsTold (Change.MakeLink path.now target.now) self.old self.new result }
         ensures before_failed { FailedAtTold self.old self.new result }
+        ensures counted { (told self.new).changes_made ≡ raised (told self.old).changes_made }
         ensures cause { HasCauseTold CallName.MakeLink self.old self.new result }
         ensures may_fail { OnErr result (MayFailAs CallName.MakeLink self.old self.new) }
         ensures scheduled { ChangeTold CallName.MakeLink (Change.MakeLink path.now target.now) self.old self.new result }
@@ -519,6 +530,7 @@ impl Tree for MemTree {
         requires { CanDo (Change.MakeHard path.now old.now) (tree_told self.old) }
         ensures history { PerformsTold (Change.MakeHard path.now old.now) self.old self.new result }
         ensures before_failed { FailedAtTold self.old self.new result }
+        ensures counted { (told self.new).changes_made ≡ raised (told self.old).changes_made }
         ensures cause { HasCauseTold CallName.MakeHard self.old self.new result }
         ensures may_fail { OnErr result (MayFailAs CallName.MakeHard self.old self.new) }
         ensures scheduled { ChangeTold CallName.MakeHard (Change.MakeHard path.now old.now) self.old self.new result }
@@ -533,6 +545,7 @@ impl Tree for MemTree {
         requires { CanDo (Change.WriteFile path.now bytes.now mode) (tree_told self.old) }
         ensures history { PerformsTold (Change.WriteFile path.now bytes.now mode) self.old self.new result }
         ensures before_failed { FailedAtTold self.old self.new result }
+        ensures counted { (told self.new).changes_made ≡ raised (told self.old).changes_made }
         ensures cause { HasCauseTold CallName.WriteFile self.old self.new result }
         ensures may_fail { OnErr result (MayFailAs CallName.WriteFile self.old self.new) }
         ensures scheduled { ChangeTold CallName.WriteFile (Change.WriteFile path.now bytes.now mode) self.old self.new result }
@@ -550,6 +563,7 @@ impl Tree for MemTree {
         requires { CanDo (Change.SetMode path.now mode) (tree_told self.old) }
         ensures history { PerformsTold (Change.SetMode path.now mode) self.old self.new result }
         ensures before_failed { FailedAtTold self.old self.new result }
+        ensures counted { (told self.new).changes_made ≡ raised (told self.old).changes_made }
         ensures cause { HasCauseTold CallName.SetMode self.old self.new result }
         ensures may_fail { OnErr result (MayFailAs CallName.SetMode self.old self.new) }
         ensures scheduled { ChangeTold CallName.SetMode (Change.SetMode path.now mode) self.old self.new result }
@@ -564,6 +578,7 @@ impl Tree for MemTree {
         requires { CanDo (Change.Remove path.now) (tree_told self.old) }
         ensures history { PerformsTold (Change.Remove path.now) self.old self.new result }
         ensures before_failed { FailedAtTold self.old self.new result }
+        ensures counted { (told self.new).changes_made ≡ raised (told self.old).changes_made }
         ensures cause { HasCauseTold CallName.Remove self.old self.new result }
         ensures may_fail { OnErr result (MayFailAs CallName.Remove self.old self.new) }
         ensures scheduled { ChangeTold CallName.Remove (Change.Remove path.now) self.old self.new result }
@@ -578,6 +593,7 @@ impl Tree for MemTree {
         requires { CanDo (Change.RemoveDir path.now) (tree_told self.old) }
         ensures history { PerformsTold (Change.RemoveDir path.now) self.old self.new result }
         ensures before_failed { FailedAtTold self.old self.new result }
+        ensures counted { (told self.new).changes_made ≡ raised (told self.old).changes_made }
         ensures cause { HasCauseTold CallName.RemoveDir self.old self.new result }
         ensures may_fail { OnErr result (MayFailAs CallName.RemoveDir self.old self.new) }
         ensures scheduled { ChangeTold CallName.RemoveDir (Change.RemoveDir path.now) self.old self.new result }
@@ -591,6 +607,7 @@ impl Tree for MemTree {
     fn sync(&mut self) -> Result<(), Failed>
         ensures history { PerformsTold Change.Sync self.old self.new result }
         ensures before_failed { FailedAtTold self.old self.new result }
+        ensures counted { (told self.new).changes_made ≡ raised (told self.old).changes_made }
         ensures cause { HasCauseTold CallName.Sync self.old self.new result }
         ensures may_fail { OnErr result (MayFailAs CallName.Sync self.old self.new) }
         ensures scheduled { ChangeTold CallName.Sync Change.Sync self.old self.new result }

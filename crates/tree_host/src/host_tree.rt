@@ -1,5 +1,6 @@
 // The tree below the working directory.
 ghost use Rattle.std.specs.Prelude.{◌≡◌, IfOk, None};
+ghost use Rattle.dired_text.specs.Counts.{raised};
 ghost use Rattle.tree_core.specs.FileTree.{root_tree};
 ghost use Rattle.tree_core.specs.History.{Began};
 
@@ -18,6 +19,8 @@ use tree_core::{CallName, Faults, Kind, LookEnd, Meta, ReadEnd, Tree};
 pub struct HostTree<R: Files + Processes + AllocGlobal + Drop> {
     work: Work<R>,
     faults: Faults,
+    // how many changing calls were made
+    changes: u64,
 }
 
 impl<R: Files + Processes + AllocGlobal + Drop> HostTree<R> {
@@ -32,9 +35,17 @@ impl<R: Files + Processes + AllocGlobal + Drop> HostTree<R> {
             Ok(work) => Ok(HostTree {
                 work,
                 faults: Faults::new(),
+                changes: 0,
             }),
             Err(_) => Err(Failed),
         }
+    }
+
+    // One changing call more is made.
+    fn note_change(&mut self)
+        ensures { self.new ≡ record self.old { changes = raised self.old.changes } }
+    {
+        self.changes = self.changes.saturating_add(1);
     }
 }
 
@@ -50,6 +61,8 @@ impl<R: Files + Processes + AllocGlobal + Drop> Tree for HostTree<R> {
     ghost fields = { λ _ _. no_fields };
 
     ghost faults = { λ t. t.faults };
+
+    ghost changes = { λ t. t.changes };
 
     ghost MayFail = { λ _ _ _. Unit {0} };
 
@@ -122,6 +135,7 @@ impl<R: Files + Processes + AllocGlobal + Drop> Tree for HostTree<R> {
     }
 
     fn make_dir(&mut self, path: &Path, mode: u16) -> Result<(), Failed> {
+        self.note_change();
         match self.work.make_dir(path, mode) {
             Ok(()) => Ok(()),
             Err(_) => {
@@ -132,6 +146,7 @@ impl<R: Files + Processes + AllocGlobal + Drop> Tree for HostTree<R> {
     }
 
     fn make_link(&mut self, path: &Path, target: &str) -> Result<(), Failed> {
+        self.note_change();
         match self.work.make_link(path, target) {
             Ok(()) => Ok(()),
             Err(_) => {
@@ -142,6 +157,7 @@ impl<R: Files + Processes + AllocGlobal + Drop> Tree for HostTree<R> {
     }
 
     fn make_hard(&mut self, path: &Path, old: &Path) -> Result<(), Failed> {
+        self.note_change();
         match self.work.make_hard(path, old) {
             Ok(()) => Ok(()),
             Err(_) => {
@@ -152,6 +168,7 @@ impl<R: Files + Processes + AllocGlobal + Drop> Tree for HostTree<R> {
     }
 
     fn write_file(&mut self, path: &Path, bytes: &[u8], mode: u16) -> Result<(), Failed> {
+        self.note_change();
         match self.work.write_file(path, bytes, mode) {
             Ok(()) => Ok(()),
             Err(_) => {
@@ -162,6 +179,7 @@ impl<R: Files + Processes + AllocGlobal + Drop> Tree for HostTree<R> {
     }
 
     fn rename(&mut self, from: &Path, to: &Path) -> Result<(), Failed> {
+        self.note_change();
         match self.work.rename(from, to) {
             Ok(()) => Ok(()),
             Err(_) => {
@@ -172,6 +190,7 @@ impl<R: Files + Processes + AllocGlobal + Drop> Tree for HostTree<R> {
     }
 
     fn set_mode(&mut self, path: &Path, mode: u16) -> Result<(), Failed> {
+        self.note_change();
         match self.work.set_mode(path, mode) {
             Ok(()) => Ok(()),
             Err(_) => {
@@ -182,6 +201,7 @@ impl<R: Files + Processes + AllocGlobal + Drop> Tree for HostTree<R> {
     }
 
     fn remove(&mut self, path: &Path) -> Result<(), Failed> {
+        self.note_change();
         match self.work.remove(path) {
             Ok(()) => Ok(()),
             Err(_) => {
@@ -192,6 +212,7 @@ impl<R: Files + Processes + AllocGlobal + Drop> Tree for HostTree<R> {
     }
 
     fn remove_dir(&mut self, path: &Path) -> Result<(), Failed> {
+        self.note_change();
         match self.work.remove_dir(path) {
             Ok(()) => Ok(()),
             Err(_) => {
@@ -202,6 +223,7 @@ impl<R: Files + Processes + AllocGlobal + Drop> Tree for HostTree<R> {
     }
 
     fn sync(&mut self) -> Result<(), Failed> {
+        self.note_change();
         match self.work.sync() {
             Ok(()) => Ok(()),
             Err(_) => {
