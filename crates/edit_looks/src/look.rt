@@ -46,6 +46,7 @@ pub fn look<T: Tree>(alloc: Global, tree: &mut T, path: &Path) -> Result<Option<
         (T.history tree.old) (T.history tree.new) (T.fields tree.old) (T.fields tree.new)
         (T.before_failed tree.old) (T.before_failed tree.new) }
     ensures faults { T.faults tree.new ≡ faults_with (failed_in failed_look result) (T.faults tree.old) }
+    ensures unchanged { T.changes tree.new ≡ T.changes tree.old }
     ensures looks { IsLookAt (failed_in failed_look result) }
 {
     let kind = match tree.kind(path) {

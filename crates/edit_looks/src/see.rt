@@ -38,6 +38,7 @@ pub fn see<T: Tree>(
         (T.history tree.old) (T.history tree.new) (T.fields tree.old) (T.fields tree.new)
         (T.before_failed tree.old) (T.before_failed tree.new) }
     ensures faults { T.faults tree.new ≡ faults_with (failed_in failed_look result) (T.faults tree.old) }
+    ensures unchanged { T.changes tree.new ≡ T.changes tree.old }
     ensures looks { IsLookAt (failed_in failed_look result) }
 {
     if findings.stands(path) {
@@ -74,6 +75,7 @@ fn see_down<T: Tree>(
         (T.history tree.old) (T.history tree.new) (T.fields tree.old) (T.fields tree.new)
         (T.before_failed tree.old) (T.before_failed tree.new) }
     ensures faults { T.faults tree.new ≡ faults_with (failed_in failed_look result) (T.faults tree.old) }
+    ensures unchanged { T.changes tree.new ≡ T.changes tree.old }
     ensures looks { IsLookAt (failed_in failed_look result) }
 {
     for len in 0..path.names().len() + 1 {
@@ -105,6 +107,7 @@ fn see_here<T: Tree>(
         (T.history tree.old) (T.history tree.new) (T.fields tree.old) (T.fields tree.new)
         (T.before_failed tree.old) (T.before_failed tree.new) }
     ensures faults { T.faults tree.new ≡ faults_with (failed_in failed_look result) (T.faults tree.old) }
+    ensures unchanged { T.changes tree.new ≡ T.changes tree.old }
     ensures looks { IsLookAt (failed_in failed_look result) }
 {
     if let Some(found) = findings.found.get(path) {
@@ -131,6 +134,7 @@ pub fn see_empty<T: Tree>(tree: &mut T, findings: &mut Findings, path: &Path) ->
         (T.history tree.old) (T.history tree.new) (T.fields tree.old) (T.fields tree.new)
         (T.before_failed tree.old) (T.before_failed tree.new) }
     ensures faults { T.faults tree.new ≡ faults_with (failed_in failed_look result) (T.faults tree.old) }
+    ensures unchanged { T.changes tree.new ≡ T.changes tree.old }
     ensures looks { IsLookAt (failed_in failed_look result) }
 {
     if !findings.is_dir(path) || findings.empty.contains_key(path) {

@@ -30,6 +30,7 @@ pub(crate) fn find<T: Tree>(
         (T.history tree.old) (T.history tree.new) (T.fields tree.old) (T.fields tree.new)
         (T.before_failed tree.old) (T.before_failed tree.new) }
     ensures faults { T.faults tree.new ≡ faults_with (failed_in failed_start result) (T.faults tree.old) }
+    ensures unchanged { T.changes tree.new ≡ T.changes tree.old }
     ensures untold { IfErr result (λ e. is_told e ≡ false) }
 {
     let mut found = Vec::new(alloc);
@@ -48,6 +49,7 @@ fn find_one<T: Tree>(tree: &mut T, name: &Name, path: &Path) -> Result<Found, St
         (T.history tree.old) (T.history tree.new) (T.fields tree.old) (T.fields tree.new)
         (T.before_failed tree.old) (T.before_failed tree.new) }
     ensures faults { T.faults tree.new ≡ faults_with (failed_in failed_start result) (T.faults tree.old) }
+    ensures unchanged { T.changes tree.new ≡ T.changes tree.old }
     ensures untold { IfErr result (λ e. is_told e ≡ false) }
 {
     let name = read_name(name.as_str());
@@ -83,6 +85,7 @@ pub(crate) fn kind_at<T: Tree>(tree: &mut T, path: &Path) -> Result<Option<Kind>
         (T.history tree.old) (T.history tree.new) (T.fields tree.old) (T.fields tree.new)
         (T.before_failed tree.old) (T.before_failed tree.new) }
     ensures faults { T.faults tree.new ≡ faults_with (failed_in failed_start result) (T.faults tree.old) }
+    ensures unchanged { T.changes tree.new ≡ T.changes tree.old }
     ensures untold { IfErr result (λ e. is_told e ≡ false) }
 {
     match tree.kind(path) {
@@ -99,6 +102,7 @@ fn is_empty_at<T: Tree>(tree: &mut T, path: &Path) -> Result<bool, StartEnd>
         (T.history tree.old) (T.history tree.new) (T.fields tree.old) (T.fields tree.new)
         (T.before_failed tree.old) (T.before_failed tree.new) }
     ensures faults { T.faults tree.new ≡ faults_with (failed_in failed_start result) (T.faults tree.old) }
+    ensures unchanged { T.changes tree.new ≡ T.changes tree.old }
     ensures untold { IfErr result (λ e. is_told e ≡ false) }
 {
     match tree.is_empty(path) {
@@ -119,6 +123,7 @@ pub(crate) fn names_at<T: Tree>(
         (T.history tree.old) (T.history tree.new) (T.fields tree.old) (T.fields tree.new)
         (T.before_failed tree.old) (T.before_failed tree.new) }
     ensures faults { T.faults tree.new ≡ faults_with (failed_in failed_start result) (T.faults tree.old) }
+    ensures unchanged { T.changes tree.new ≡ T.changes tree.old }
     ensures untold { IfErr result (λ e. is_told e ≡ false) }
 {
     match tree.names(alloc, path) {

@@ -32,6 +32,7 @@ pub(crate) fn read_steps<T: Tree>(
         (T.history tree.old) (T.history tree.new) (T.fields tree.old) (T.fields tree.new)
         (T.before_failed tree.old) (T.before_failed tree.new) }
     ensures faults { T.faults tree.new ≡ faults_with (failed_in failed_start result) (T.faults tree.old) }
+    ensures unchanged { T.changes tree.new ≡ T.changes tree.old }
 {
     let bytes = match tree.read(alloc, path, MAX_JOURNAL_BYTES) {
         Ok(bytes) => bytes,

@@ -61,6 +61,7 @@ pub fn find_leftovers<T: Tree>(alloc: Global, tree: &mut T) -> Result<Option<Lef
         (T.history tree.old) (T.history tree.new) (T.fields tree.old) (T.fields tree.new)
         (T.before_failed tree.old) (T.before_failed tree.new) }
     ensures faults { T.faults tree.new ≡ faults_with (failed_in failed_start result) (T.faults tree.old) }
+    ensures unchanged { T.changes tree.new ≡ T.changes tree.old }
 {
     let staging = staging_path(alloc)?;
     match kind_at(tree, &staging)? {
@@ -93,6 +94,7 @@ fn leftovers_in<T: Tree>(alloc: Global, tree: &mut T, staging: &Path) -> Result<
         (T.history tree.old) (T.history tree.new) (T.fields tree.old) (T.fields tree.new)
         (T.before_failed tree.old) (T.before_failed tree.new) }
     ensures faults { T.faults tree.new ≡ faults_with (failed_in failed_start result) (T.faults tree.old) }
+    ensures unchanged { T.changes tree.new ≡ T.changes tree.old }
 {
     let scan = list_staging(alloc, tree, staging)?;
     let standing = match sort_out(&scan.found) {
@@ -127,6 +129,7 @@ fn list_staging<T: Tree>(alloc: Global, tree: &mut T, staging: &Path) -> Result<
         (T.history tree.old) (T.history tree.new) (T.fields tree.old) (T.fields tree.new)
         (T.before_failed tree.old) (T.before_failed tree.new) }
     ensures faults { T.faults tree.new ≡ faults_with (failed_in failed_start result) (T.faults tree.old) }
+    ensures unchanged { T.changes tree.new ≡ T.changes tree.old }
 {
     let names = names_at(alloc, tree, staging)?;
     let paths = staged_paths(alloc, &names)?;
@@ -151,6 +154,7 @@ fn steps_of<T: Tree>(
         (T.history tree.old) (T.history tree.new) (T.fields tree.old) (T.fields tree.new)
         (T.before_failed tree.old) (T.before_failed tree.new) }
     ensures faults { T.faults tree.new ≡ faults_with (failed_in failed_start result) (T.faults tree.old) }
+    ensures unchanged { T.changes tree.new ≡ T.changes tree.old }
 {
     match journal {
         None => Ok(Steps::from_vec(Vec::new(alloc))),

@@ -29,6 +29,7 @@ pub fn list_dir<T: Tree>(
     ensures looked { T.Tells → OnlyLooked (failed_in failed_call result) (T.history tree.old) (T.history tree.new)
         (T.fields tree.old) (T.fields tree.new) (T.before_failed tree.old) (T.before_failed tree.new) }
     ensures faults { T.faults tree.new ≡ faults_with (failed_in failed_call result) (T.faults tree.old) }
+    ensures unchanged { T.changes tree.new ≡ T.changes tree.old }
 {
     let names = match tree.names(alloc, dir) {
         Ok(names) => names,
@@ -54,6 +55,7 @@ fn lines_of<T: Tree>(
     ensures looked { T.Tells → OnlyLooked (failed_in failed_call result) (T.history tree.old) (T.history tree.new)
         (T.fields tree.old) (T.fields tree.new) (T.before_failed tree.old) (T.before_failed tree.new) }
     ensures faults { T.faults tree.new ≡ faults_with (failed_in failed_call result) (T.faults tree.old) }
+    ensures unchanged { T.changes tree.new ≡ T.changes tree.old }
 {
     let mut lines = Vec::new(alloc);
     for name in names {
@@ -78,6 +80,7 @@ fn line_in<T: Tree>(
     ensures looked { T.Tells → OnlyLooked (failed_in failed_call result) (T.history tree.old) (T.history tree.new)
         (T.fields tree.old) (T.fields tree.new) (T.before_failed tree.old) (T.before_failed tree.new) }
     ensures faults { T.faults tree.new ≡ faults_with (failed_in failed_call result) (T.faults tree.old) }
+    ensures unchanged { T.changes tree.new ≡ T.changes tree.old }
 {
     if !switches.all && is_hidden(name) {
         return Ok(None);

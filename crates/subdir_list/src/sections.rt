@@ -32,6 +32,7 @@ pub fn list_dirs<T: Tree>(
     ensures looked { T.Tells → OnlyLooked (failed_in failed_call result) (T.history tree.old) (T.history tree.new)
         (T.fields tree.old) (T.fields tree.new) (T.before_failed tree.old) (T.before_failed tree.new) }
     ensures faults { T.faults tree.new ≡ faults_with (failed_in failed_call result) (T.faults tree.old) }
+    ensures unchanged { T.changes tree.new ≡ T.changes tree.old }
 {
     let paths = paths_of(alloc, tree, dirs)?;
     let mut text = Vec::new(alloc);
@@ -53,6 +54,7 @@ fn paths_of<T: Tree>(alloc: Global, tree: &mut T, dirs: &[Path]) -> Result<Vec<P
     ensures looked { T.Tells → OnlyLooked (failed_in failed_call result) (T.history tree.old) (T.history tree.new)
         (T.fields tree.old) (T.fields tree.new) (T.before_failed tree.old) (T.before_failed tree.new) }
     ensures faults { T.faults tree.new ≡ faults_with (failed_in failed_call result) (T.faults tree.old) }
+    ensures unchanged { T.changes tree.new ≡ T.changes tree.old }
 {
     let mut paths = BTreeSet::new(alloc);
     paths.insert(Path::root(alloc))?;
@@ -80,6 +82,7 @@ fn is_dir<T: Tree>(tree: &mut T, path: &Path) -> Result<bool, ListEnd>
     ensures looked { T.Tells → OnlyLooked (failed_in failed_call result) (T.history tree.old) (T.history tree.new)
         (T.fields tree.old) (T.fields tree.new) (T.before_failed tree.old) (T.before_failed tree.new) }
     ensures faults { T.faults tree.new ≡ faults_with (failed_in failed_call result) (T.faults tree.old) }
+    ensures unchanged { T.changes tree.new ≡ T.changes tree.old }
 {
     match tree.kind(path) {
         Ok(kind) => Ok(kind == Some(Kind::Dir)),
@@ -100,6 +103,7 @@ fn section_of<T: Tree>(
     ensures looked { T.Tells → OnlyLooked (failed_in failed_call result) (T.history tree.old) (T.history tree.new)
         (T.fields tree.old) (T.fields tree.new) (T.before_failed tree.old) (T.before_failed tree.new) }
     ensures faults { T.faults tree.new ≡ faults_with (failed_in failed_call result) (T.faults tree.old) }
+    ensures unchanged { T.changes tree.new ≡ T.changes tree.old }
 {
     let lines = list_dir(alloc, tree, dir, switches)?;
     Ok(section_text(alloc, dir, &marked(alloc, lines)?)?)

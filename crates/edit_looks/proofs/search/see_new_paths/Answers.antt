@@ -19,6 +19,7 @@ loop-row-preserved g c =
       fields = search rules;
       before = search rules;
       faults = search rules;
+      changes = search rules;
     }
 
 pub returns-clause-seen : goal.returns-clause-seen

@@ -18,6 +18,7 @@ loop-row-preserved g c =
       fields = search rules;
       before = search rules;
       faults = search rules;
+      changes = search rules;
     }
 
 pub returns-clause-asked : goal.returns-clause-asked

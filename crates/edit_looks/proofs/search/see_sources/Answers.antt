@@ -23,6 +23,7 @@ loop-row-preserved g c =
       fields = search rules;
       before = search rules;
       faults = search rules;
+      changes = search rules;
     }
 
 pub returns-clause-shown : goal.returns-clause-shown

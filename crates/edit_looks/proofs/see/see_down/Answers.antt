@@ -44,6 +44,7 @@ loop-len-preserved g c =
       fields = search rules;
       before = search rules;
       faults = search rules;
+      changes = search rules;
     }
 
 pub returns-clause-seen : goal.returns-clause-seen

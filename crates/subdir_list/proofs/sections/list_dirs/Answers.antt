@@ -34,4 +34,5 @@ loop-path-preserved g c =
       fields = search rules;
       found = search rules;
       faults = search rules;
+      changes = search rules;
     }

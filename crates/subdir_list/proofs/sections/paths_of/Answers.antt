@@ -28,4 +28,5 @@ loop-dir-preserved g c =
       fields = search rules;
       found = search rules;
       faults = search rules;
+      changes = search rules;
     }
