@@ -1,0 +1,10 @@
+pub mod Arguments
+pub mod Conditions
+pub mod Expressions
+pub mod Grammar
+pub mod Programs
+pub mod ReaderStates
+pub mod Reading
+pub mod Refusals
+pub mod WordReading
+pub mod Words

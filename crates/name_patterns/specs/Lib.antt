@@ -1,0 +1,3 @@
+pub mod PatternReading
+pub mod Patterns
+pub mod Rows
