@@ -5,6 +5,7 @@ generate_texts.py TABLE EXPECTED
 """
 import sys
 
+import find_examples
 import text_examples as given
 from journals import journal
 from setting_examples import SETTINGS
@@ -187,13 +188,32 @@ def settings():
             yield asked, answered
 
 
+# ---- predicates on files
+
+def finds():
+    for text, place in find_examples.FIND_WORDS:
+        yield row("find-words", text), "ok" if place is None else refused("word %d" % place)
+    for pattern, matched, others in find_examples.PATTERNS:
+        yield from meets("-name " + pattern, [find_examples.File(name) for name in matched], [find_examples.File(name) for name in others])
+    for text, files, others in find_examples.MET:
+        yield from meets(text, files, others)
+    for text, now, paths in find_examples.FOUND:
+        yield row("find", text, now, *find_examples.TREE), fields(*paths)
+
+
+def meets(text, files, others):
+    for file in files + others:
+        shown = (file.kind, Plain("%o" % file.mode), file.links, file.size, file.time)
+        yield row("find-meets", text, file.now, file.name, *shown), "yes" if file in files else "no"
+
+
 def main():
     if len(sys.argv) != 3:
         print(__doc__)
         return 2
     with open(sys.argv[1], "w") as asks, open(sys.argv[2], "w") as comes:
         asks.write("# Made by scripts/cases/generate_texts.py. docs/CASES.md has the form.\n\n")
-        for part in (names, lines, buffers, regexps, commands, journals, marks, outside, settings):
+        for part in (names, lines, buffers, regexps, commands, journals, marks, outside, settings, finds):
             asks.write("# %s\n" % part.__name__)
             for asked, answer in part():
                 asks.write(asked + "\n")

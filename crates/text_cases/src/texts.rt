@@ -1,5 +1,5 @@
 // The rows of a table, by what they ask for.
-use crate::{buffers, journals, lines, marks, names, outside, regexps, settings, shell};
+use crate::{buffers, finds, journals, lines, marks, names, outside, regexps, settings, shell};
 use case_tables::{RowFault, Table};
 use dired_text::{Memory, Text};
 use mark_table::Marks;
@@ -37,6 +37,7 @@ impl Texts {
                 regexps::answer(self.alloc, fields)
             }
             ["quote" | "commands", ..] => shell::answer(self.alloc, fields),
+            ["find-words" | "find-meets" | "find", ..] => finds::answer(self.alloc, fields),
             ["edits", before, after] => buffers::answer(self.alloc, before, after),
             ["journal", bytes] => journals::answer(self.alloc, bytes),
             ["long-journal", count, length] => journals::long(self.alloc, count, length),
