@@ -23,6 +23,7 @@ pub(crate) fn meta_at<T: Tree>(alloc: Global, tree: &mut T, path: &Path) -> Resu
     ensures looked { T.Tells → OnlyLooked (failed_in failed_call result) (T.history tree.old) (T.history tree.new)
         (T.fields tree.old) (T.fields tree.new) (T.before_failed tree.old) (T.before_failed tree.new) }
     ensures faults { T.faults tree.new ≡ faults_with (failed_in failed_call result) (T.faults tree.old) }
+    ensures unchanged { T.changes tree.new ≡ T.changes tree.old }
 {
     match tree.meta(alloc, path) {
         Ok(meta) => Ok(meta),
@@ -44,6 +45,7 @@ pub(crate) fn names_in_dir<T: Tree>(
     ensures looked { T.Tells → OnlyLooked (failed_in failed_call result) (T.history tree.old) (T.history tree.new)
         (T.fields tree.old) (T.fields tree.new) (T.before_failed tree.old) (T.before_failed tree.new) }
     ensures faults { T.faults tree.new ≡ faults_with (failed_in failed_call result) (T.faults tree.old) }
+    ensures unchanged { T.changes tree.new ≡ T.changes tree.old }
 {
     match tree.names(alloc, dir) {
         Ok(names) => Ok(names),

@@ -31,6 +31,7 @@ loop-lines-init g c =
       fields = search rules;
       found = search rules;
       faults = search rules;
+      changes = search rules;
     }
 
 pub loop-lines-preserved-in-TooLong : goal.loop-lines-preserved-in-TooLong
@@ -52,6 +53,7 @@ loop-lines-preserved-in-TooLong g c =
       fields = search rules;
       found = search rules;
       faults = search rules;
+      changes = search rules;
     }
 
 pub loop-lines-smaller : goal.loop-lines-smaller
@@ -90,4 +92,5 @@ loop-lines-preserved g c =
       fields = search rules;
       found = search rules;
       faults = search rules;
+      changes = search rules;
     }

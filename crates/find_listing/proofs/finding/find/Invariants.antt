@@ -18,6 +18,7 @@ invariant-loop-lines g l =
       fields : T.Tells → T.fields l.tree ≡ T.fields l.fn.tree;
       found : T.Tells → T.before_failed l.tree ≡ T.before_failed l.fn.tree;
       faults : T.faults l.tree ≡ T.faults l.fn.tree;
+      changes : T.changes l.tree ≡ T.changes l.fn.tree;
     }
 
 abbrev pub decreases-loop-lines : goal.decreases-loop-lines
