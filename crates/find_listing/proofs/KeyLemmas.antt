@@ -11,14 +11,13 @@ use Rattle.std.specs.Str.{bytes_eq}
 use Rattle.std.specs.declared.cmp.Ordering.{Ordering}
 use Rattle.std.specs.declared.cmp.Ordering.TheVariants.{Less, Equal, Greater}
 use Rattle.std.specs.Ordering.{is_lt}
-use Rattle.std.specs.Cmp.{tied_itself as total_tied_itself}
 use Rattle.std.specs.List.{list_any, filter, AllByRecursion}
 use Rattle.std.specs.List.Sorted.{IsStrictlySortedBy}
 use Rattle.std.specs.FinMap.Entries.{below_all}
 use Rattle.std.specs.FinMap.{get, entries, entries_sorted, contains_key-keys, is_sorted}
 use Rattle.std.specs.BTreeSet.{BTreeSet, contains}
 use Rattle.dired_text.specs.Paths.{Names, path_cmp, rest_below, is_below}
-use Rattle.dired_text.proofs.PathLemmas.{path_cmp-total, path_cmp-exact, rest_below-append, rest_below-some, rest_below-same, append_cancel, path_decides, tied}
+use Rattle.dired_text.proofs.PathLemmas.{path_cmp-total, path_cmp-exact, rest_below-some, rest_below-same, path_decides}
 use Rattle.tree_core.specs.declared.node.Node.{Node}
 use Rattle.tree_core.specs.FileTree.{FileTree, IsTree, IsDir, IsAbsent, Stands, is_dir_node}
 use Rattle.tree_core.specs.Fields.{names_in}

@@ -1,5 +1,5 @@
 -- Lines of paths.
-use Rattle.std.proofs.Common.{◌≡◌, ◌≢◌, ℕ, ◌+◌, ◌≤◌, ◌<◌, ◌^◌, Bool, true, false, ◌&&◌, not, List, [], ◌∷◌, ◌++◌, length, All, refl, sym, ◌∙◌, ap, subst, arith, IsUtf8, nat_le, length-append}
+use Rattle.std.proofs.Common.{◌≡◌, ◌≢◌, ℕ, ◌+◌, ◌≤◌, Bool, true, false, ◌&&◌, not, List, [], ◌∷◌, ◌++◌, length, All, refl, sym, ◌∙◌, ap, arith, IsUtf8, nat_le, length-append}
 use Rattle.std.proofs.lemmas.Bool.{and_parts, le-leb, leb-true}
 use Rattle.std.proofs.lemmas.List.Elements.{recursion_from_All, All-from_recursion}
 use Rattle.std.proofs.lemmas.Str.{IsUtf8-from_is_utf8, IsUtf8-from_ascii, IsUtf8-append, IsUtf8-nil}
@@ -12,7 +12,7 @@ use Rattle.tree_core.specs.declared.node.Kind.{Kind}
 use Rattle.tree_core.specs.declared.node.Kind.TheVariants.{File, Dir, Link}
 use Rattle.tree_core.specs.Fields.{IsMeta, IsOfKind, IsOwner}
 use Rattle.listing_text.specs.Fields.{is_word, is_word_byte}
-use Rattle.listing_text.specs.Grammar.{IsLawful, IsModeOf, IsTargetOf}
+use Rattle.listing_text.specs.Grammar.{IsModeOf, IsTargetOf}
 use Rattle.find_listing.specs.Finds.{IsLineOf, line_of}
 use Rattle.find_listing.proofs.OrderLemmas.{all_append}
 

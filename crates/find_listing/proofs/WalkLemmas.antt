@@ -1,5 +1,5 @@
 -- One path of a walk after another.
-use Rattle.std.proofs.Common.{◌≡◌, ◌≢◌, ℕ, zero, suc, ◌+◌, ◌-◌, ◌*◌, ◌^◌, ◌≤◌, ◌<◌, Bool, true, false, not, ◌&&◌, List, [], ◌∷◌, ◌++◌, map, flat_map, length, refl, sym, ◌∙◌, ap, subst, append_assoc, append-nil, length-append, arith, inl, inr, ℤ, Option, Some, None, is_some, get_or, nat_le}
+use Rattle.std.proofs.Common.{◌≡◌, ◌≢◌, ℕ, suc, ◌+◌, ◌-◌, ◌*◌, ◌^◌, ◌≤◌, ◌<◌, Bool, true, false, not, ◌&&◌, List, [], ◌∷◌, ◌++◌, map, flat_map, length, refl, sym, ◌∙◌, ap, subst, append_assoc, append-nil, length-append, arith, inl, inr, ℤ, Option, Some, None, is_some, get_or, nat_le}
 use Rattle.std.proofs.Math.Nat.{pow-succ', pow-le-pow_right, one-le-pow, mul-le-mul_right, suc-mul}
 use Rattle.std.proofs.lemmas.Bool.{le-leb, lt-leb}
 use Rattle.std.proofs.lemmas.List.{map-append}
@@ -8,9 +8,8 @@ use Rattle.std.proofs.lemmas.List.Folds.{list_any_at}
 use Rattle.std.proofs.lemmas.Grind.{flat_map-append}
 use Rattle.std.proofs.lemmas.Slice.Eq.{bytes_eq-Decides}
 use Rattle.std.specs.Str.{bytes_eq}
-use Rattle.std.specs.declared.cmp.Ordering.{Ordering}
-use Rattle.std.specs.declared.cmp.Ordering.TheVariants.{Less, Equal, Greater}
-use Rattle.std.specs.List.{filter, AllByRecursion, list_any}
+use Rattle.std.specs.declared.cmp.Ordering.TheVariants.{Less}
+use Rattle.std.specs.List.{filter, AllByRecursion}
 use Rattle.std.specs.List.Sorted.{IsStrictlySortedBy}
 use Rattle.std.specs.Option.{option_map}
 use Rattle.std.specs.FinMap.{get}
@@ -21,7 +20,7 @@ use Rattle.tree_core.specs.declared.node.Kind.{Kind}
 use Rattle.tree_core.specs.declared.node.Kind.TheVariants as kind
 use Rattle.tree_core.specs.declared.node.Node.{Node}
 use Rattle.tree_core.specs.declared.node.Node.TheVariants.{Dir, Link, File}
-use Rattle.tree_core.specs.FileTree.{FileTree, IsTree, IsDir, Stands, kind_of, is_dir_node}
+use Rattle.tree_core.specs.FileTree.{FileTree, IsTree, Stands, kind_of, is_dir_node}
 use Rattle.tree_core.specs.Fields.{AreFields, RiseStrictly, names_in}
 use Rattle.tree_core.proofs.NameLemmas.{names_stand}
 use Rattle.listing_text.specs.declared.line.Line.{Line}

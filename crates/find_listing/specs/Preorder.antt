@@ -3,7 +3,7 @@ use Rattle.std.specs.Prelude.{◌≡◌, List, [], ◌∷◌, map, flat_map}
 use Rattle.std.specs.List.{filter}
 use Rattle.std.specs.FinMap.{entries}
 use Rattle.dired_text.specs.Paths.{Names, is_below}
-use Rattle.tree_core.specs.FileTree.{FileTree, IsTree, Stands}
+use Rattle.tree_core.specs.FileTree.{FileTree, Stands}
 use Rattle.tree_core.specs.Fields.{names_in}
 use Rattle.find_listing.specs.Finds.{paths_of}
 use Rattle.find_listing.specs.Walks.{children}

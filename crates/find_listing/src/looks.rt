@@ -1,5 +1,5 @@
 // What is looked at of a path.
-ghost use Rattle.std.specs.Prelude.{◌≡◌, ◌≢◌, ◌<◌, ◌≤◌, ◌^◌, [], IfOk, IfErr, length};
+ghost use Rattle.std.specs.Prelude.{◌≡◌, ◌≢◌, ◌<◌, ◌≤◌, ◌^◌, [], IfOk, length};
 ghost use Rattle.dired_text.specs.Paths.{AreNames, path_bytes, max_path_bytes};
 ghost use Rattle.tree_core.specs.FileTree.{IsDir, Stands};
 ghost use Rattle.tree_core.specs.Fields.{IsMeta, RiseStrictly, names_in};

@@ -1,7 +1,7 @@
 // What the words of a predicate say.
 ghost use Rattle.std.specs.Prelude.{◌≡◌, ◌<◌, ◌≤◌, ◌^◌, IfOk, IfSome};
 ghost use Rattle.std.specs.Str.{bytes_eq};
-ghost use Rattle.find_words.specs.Arguments.{condition_of, bound_of, size_of, kind_of, mode_of, number_of, value_from, digit_of, symbol_of as symbol_of_word};
+ghost use Rattle.find_words.specs.Arguments.{condition_of, bound_of, size_of, kind_of, mode_of, number_of, digit_of, symbol_of as symbol_of_word};
 
 use crate::conditions::{Bound, Condition};
 use dired_text::Memory;

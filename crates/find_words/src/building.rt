@@ -1,5 +1,5 @@
 // The program of a predicate, as it is built.
-ghost use Rattle.std.specs.Prelude.{◌≡◌, ◌∷◌, ◌++◌, [], OnOk};
+ghost use Rattle.std.specs.Prelude.{◌≡◌};
 
 use crate::conditions::Condition;
 use crate::predicate::Operation;
@@ -34,8 +34,8 @@ impl Model for Builder {
 }
 
 impl Builder {
-    ghost use Rattle.std.specs.Prelude.{◌≡◌, ◌∷◌, ◌++◌, [], OnOk};
-    ghost use Rattle.find_words.specs.Reading.{waiting, tested, complete as complete_of, alternative as alternative_of, closed, leave, taken_tight, tight};
+    ghost use Rattle.std.specs.Prelude.{◌≡◌, [], OnOk};
+    ghost use Rattle.find_words.specs.Reading.{waiting, tested, complete as complete_of, alternative as alternative_of, closed, taken_tight, tight};
 
     pub(crate) fn new(alloc: Global) -> Self
         ensures { result ≡ ([], []) }

@@ -1,5 +1,5 @@
 // Predicates as programs.
-ghost use Rattle.std.specs.Prelude.{◌≡◌, ◌∷◌, ◌++◌, [], IfOk, OnOk, List, Bool};
+ghost use Rattle.std.specs.Prelude.{◌≡◌, ◌∷◌, IfOk, OnOk, List};
 ghost use Rattle.find_words.specs.Expressions.{value_of};
 ghost use Rattle.find_words.specs.Programs.{run};
 ghost use Rattle.find_words.specs.declared.predicate.Operation.{Operation as AnOperation};

@@ -1,5 +1,5 @@
 -- Behind a `[` that isn't closed none is closed.
-use Rattle.std.proofs.Common.{◌≡◌, ◌∙◌, refl, sym, ap, arith, ℕ, zero, suc, ◌+◌, ◌≤◌, Bool, true, false, not, ◌==◌, ◌&&◌, List, [], ◌∷◌, length, drop, eqb-true}
+use Rattle.std.proofs.Common.{◌≡◌, ◌∙◌, refl, ap, arith, ℕ, zero, suc, ◌+◌, ◌≤◌, Bool, true, false, ◌==◌, List, [], ◌∷◌, length, drop, eqb-true}
 use Rattle.std.proofs.lemmas.Bool.{and_parts, ltb-false, le-ltb}
 use Rattle.std.specs.List.{AllByRecursion, position_or_len}
 use Rattle.name_patterns.specs.declared.patterns.Glyph.{Glyph}

@@ -1,5 +1,5 @@
 // Patterns of names.
-ghost use Rattle.std.specs.Prelude.{◌≡◌, ◌<◌, ◌≤◌, ◌||◌, [], ◌∷◌, drop, length, IfOk, IfSome, MatchOption};
+ghost use Rattle.std.specs.Prelude.{◌≡◌, ◌<◌, ◌≤◌, ◌||◌, [], ◌∷◌, drop, length, IfOk, MatchOption};
 ghost use Rattle.name_patterns.specs.Patterns.{glyphs_of as glyphs_of_text, is_mark as is_mark_glyph, pieces_of, member_count as member_count_of, is_next as is_next_of, has as has_character, stands_for as stands_for_character};
 ghost use Rattle.std.specs.List.{position_or_len};
 ghost use Rattle.name_patterns.specs.PatternReading.{StartsWith, IsSetRead, sets_behind as sets_behind_piece};
