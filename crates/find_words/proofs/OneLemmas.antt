@@ -10,7 +10,7 @@ use Rattle.find_words.specs.declared.reading.Due.TheVariants.{Operand, Operator}
 use Rattle.find_words.specs.Expressions.{Expression}
 use Rattle.find_words.specs.Programs.{program_of, expression_of as expression_by, expression_of-program_of}
 use Rattle.find_words.specs.Words.{Words}
-use Rattle.find_words.specs.Grammar.{Syntax, Primary, Group, Negated, Both, Either, words_of, expression_of, level_of, IsSyntax, Writes, IsPredicate, CanGoOn, Reads, IsFirstFault}
+use Rattle.find_words.specs.Grammar.{Syntax, Primary, Group, Negated, Both, Either, words_of, level_of, IsSyntax, Writes, IsPredicate, CanGoOn, Reads, IsFirstFault}
 use Rattle.find_words.specs.Reading.{Built, State, complete, alternative, leave, closed, tested, waiting, at, argued, begun, gone_on, run_on, start}
 use Rattle.find_words.proofs.LayerLemmas.{program}
 use Rattle.find_words.proofs.GoLemmas.{earlier}

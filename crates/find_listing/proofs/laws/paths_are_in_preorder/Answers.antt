@@ -1,3 +1,4 @@
+use Rattle.std.proofs.Common.{[]}
 use Rattle.find_listing.proofs.KeyLemmas.{below_is, stood}
 use Rattle.find_listing.proofs.WalkLemmas.{paths_begin}
 use Rattle.find_listing.proofs.laws.paths_are_in_preorder.Goals as goal
