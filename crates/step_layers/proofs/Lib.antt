@@ -6,3 +6,4 @@ pub mod GroupLemmas
 pub mod FloorLemmas
 pub mod RaiseLemmas
 pub mod PutLemmas
+pub mod SoundLemmas
