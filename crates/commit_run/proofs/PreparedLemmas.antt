@@ -5,7 +5,7 @@ use Rattle.std.specs.List.{AllByRecursion}
 use Rattle.dired_text.specs.Paths.{Names}
 use Rattle.commit_journal.specs.declared.version.Version.TheVariants.{Two}
 use Rattle.commit_journal.specs.Grammar.{IsJournalOf}
-use Rattle.commit_journal.specs.Spelling.{CanEncode, journal_text}
+use Rattle.commit_journal.specs.Spelling.{journal_text}
 use Rattle.commit_journal.proofs.GrammarLemmas.{journal_spelled, journal_spells}
 use Rattle.commit_plan.specs.Promises.{AreCounted, IsOldTree}
 use Rattle.commit_plan.proofs.PlanLemmas.{plan_there, planned}
@@ -88,9 +88,6 @@ module _ (checked : Checked) (can : CanBeMadeWhereItStands checked) (listed : Li
       one once keeps (written journal journal_is text) in
       let two = subst (λ (fs : List Fresh). Fits sorted fs journal (held_of (sight_of t) rs) (edited t rs (made_for t (changes_in checked) next)) t next) (sym asked) in_order in
       subst (λ (hs : List Held). Fits sorted fresh journal hs (edited t rs (made_for t (changes_in checked) next)) t next) (sym (put_aside ∙ held_there t old)) two
-
-  pub encodes : CanEncode sorted
-  encodes = (orders_can_be_spelled checked steps sorted is plan keeps).0
 
 -- as many steps
 pub counted_result : {E : Type 0} (checked : Checked) (result : Result Prepared E) (steps sorted : List Step) → AreCounted checked steps → IsPermutation steps sorted

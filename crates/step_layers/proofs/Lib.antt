@@ -7,3 +7,4 @@ pub mod FloorLemmas
 pub mod RaiseLemmas
 pub mod PutLemmas
 pub mod SoundLemmas
+pub mod SortedLemmas

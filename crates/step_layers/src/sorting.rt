@@ -4,7 +4,7 @@ ghost use Rattle.std.specs.List.{AllByRecursion};
 ghost use Rattle.tree_core.specs.declared.node.Node.{Node};
 ghost use Rattle.tree_core.specs.FileTree.{FileTree};
 ghost use Rattle.commit_steps.specs.Steps.{HasPaths, IsLawfulStep};
-ghost use Rattle.step_trees.specs.Groups.{groups, joined};
+ghost use Rattle.step_trees.specs.Groups.{groups};
 ghost use Rattle.step_trees.specs.Leads.{Leads, start};
 ghost use Rattle.step_layers.specs.Layers.{by_layer, layers};
 ghost use Rattle.step_layers.specs.Order.{KeepsOrder, SetOnce};
@@ -37,17 +37,16 @@ pub fn sort_by_layer(alloc: Global, steps: Steps) -> Result<Steps, Memory>
     ensures groups { IfOk result (λ sorted. AllByRecursion IsLawfulStep steps
         → 8 < length steps → length (groups sorted) ≤ length (layers steps)) }
 {
-    let steps = steps.into_vec();
-    if steps.len() <= FEW_STEPS {
-        return Ok(Steps::from_vec(steps));
-    }
-    Ok(Steps::from_vec(layer_by_layer(alloc, steps)?))
+    Ok(Steps::from_vec(sorted(alloc, steps.into_vec())?))
 }
 
-// All steps, layer by layer.
-fn layer_by_layer(alloc: Global, steps: Vec<Step>) -> Result<Vec<Step>, Memory>
-    ensures { IfOk result (λ all. all.items ≡ joined (layers steps.items)) }
+#[tactic(auto, using(crate::proofs::GroupLemmas::sorted_few))]
+fn sorted(alloc: Global, steps: Vec<Step>) -> Result<Vec<Step>, Memory>
+    ensures { IfOk result (λ sorted. sorted.items ≡ by_layer steps.items) }
 {
+    if steps.len() <= FEW_STEPS {
+        return Ok(steps);
+    }
     let mut layering = Layering::of(alloc, &steps)?;
     for step in steps {
         layering.take(alloc, step)?;

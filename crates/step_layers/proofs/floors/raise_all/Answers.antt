@@ -8,8 +8,8 @@ loop-number-preserved c =
     let numbers = c.args.numbers.now in
     let floor = c.args.floor in
     let k = c.loop-number.number-index in
-    let item = c.number-item.result in
-    let more : drop k numbers ≡ item ∷ drop (k + 1) numbers = drop_more numbers k item c.loop-number-test.true ∙ ap (λ x. x ∷ drop (k + 1) numbers) (sym c.number-item.is) in
+    let item = c.raise-arg-1.result in
+    let more : drop k numbers ≡ item ∷ drop (k + 1) numbers = drop_more numbers k item c.loop-number-test.true ∙ ap (λ x. x ∷ drop (k + 1) numbers) (sym c.raise-arg-1.is) in
     ap (raised_all floor (map (option_map (λ n. n.now)) (drop (k + 1) numbers))) c.raise.ensures
     ∙ ap (λ ns. raised_all floor (map (option_map (λ n. n.now)) ns) c.loop-number.floors) (sym more)
     ∙ c.loop-number.invariant

@@ -16,5 +16,5 @@ loop-layer-preserved c =
 pub returns : goal.returns
 returns c =
     let layers = c.args.self.layers in
-    let t = YieldsList-end (YieldsList-from_vec layers.items c.into_iter.ensures.rest (c.into_iter.ensures.len ∙ layers.ok.0)) c.loop-layer.yielded _ c.loop-layer.yielded_by _ _ c.in-None.is c.next.ensures.steps in
+    let t = YieldsList-end (YieldsList-from_vec layers.items c.into_iter-layer-iterator.ensures.rest (c.into_iter-layer-iterator.ensures.len ∙ layers.ok.0)) c.loop-layer.yielded _ c.loop-layer.yielded_by _ _ c.in-None.is c.next.ensures.steps in
     c.loop-layer.invariant ∙ ap (λ ls. joined (contents ls)) (sym (map-id _) ∙ t.0)

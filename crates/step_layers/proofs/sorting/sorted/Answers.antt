@@ -1,4 +1,4 @@
-use Rattle.std.proofs.Common.{◌≡◌, [], length, ap, sym, subst, ◌∙◌}
+use Rattle.std.proofs.Common.{rules, ◌≡◌, ◌<◌, [], length, ap, sym, subst, ◌∙◌}
 use Rattle.std.proofs.lemmas.Iterator.Adapters.{YieldsList-from_vec}
 use Rattle.std.proofs.lemmas.Iterator.Consumers.{YieldsList-end, YieldsList-turn}
 use Rattle.std.proofs.lemmas.List.{map-id}
@@ -6,8 +6,9 @@ use Rattle.std.specs.List.{AllByRecursion}
 use Rattle.step_trees.specs.Groups.{joined}
 use Rattle.step_layers.specs.Layering.{contents, HasNumbers}
 use Rattle.step_layers.specs.Layers.{layer_behind, layers_behind, put}
+use Rattle.step_layers.proofs.GroupLemmas.{sorted_is}
 use Rattle.step_layers.proofs.SoundLemmas.{all_at, behind_push}
-use Rattle.step_layers.proofs.sorting.layer_by_layer.Goals as goal
+use Rattle.step_layers.proofs.sorting.sorted.Goals as goal
 
 pub take-requires-clause-numbered : goal.take-requires-clause-numbered
 take-requires-clause-numbered c =
@@ -28,4 +29,5 @@ pub returns : goal.returns
 returns c =
     let steps = c.args.steps in
     let t = YieldsList-end (YieldsList-from_vec steps.items c.into_iter.ensures.rest (c.into_iter.ensures.len ∙ steps.ok.0)) c.loop-step.yielded _ c.loop-step.yielded_by _ _ c.in-None.is c.next.ensures.steps in
-    c.joined.ensures ∙ ap joined (c.loop-step.invariant.layers ∙ ap (layers_behind []) (sym (map-id _) ∙ t.0))
+    let many : 8 < length steps.items = search rules in
+    c.joined.ensures ∙ ap joined (c.loop-step.invariant.layers ∙ ap (layers_behind []) (sym (map-id _) ∙ t.0)) ∙ sym (sorted_is steps.items many)

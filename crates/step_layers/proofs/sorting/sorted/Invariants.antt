@@ -2,7 +2,7 @@ use Rattle.std.proofs.Common.{◌≡◌, []}
 use Rattle.std.specs.List.{AllByRecursion}
 use Rattle.step_layers.specs.Layering.{contents, HasNumbers, IsSound}
 use Rattle.step_layers.specs.Layers.{layers_behind}
-use Rattle.step_layers.proofs.sorting.layer_by_layer.Given as goal
+use Rattle.step_layers.proofs.sorting.sorted.Given as goal
 
 abbrev pub invariant-loop-step : goal.invariant-loop-step
 invariant-loop-step l = record {
