@@ -1,5 +1,5 @@
 -- What is kept of steps that are put into layers, call by call.
-use Rattle.std.proofs.Common.{◌≡◌, ◌⊎◌, inl, inr, ℕ, zero, suc, ◌+◌, ◌<◌, ◌≤◌, max, Bool, true, false, ◌&&◌, not, cond, List, [], ◌∷◌, ◌++◌, length, length-append, map, get_or, set, append_assoc, Option, Some, None, is_some, refl, sym, ◌∙◌, ap, ap₂, subst, arith, IsTrue, if◌then◌else◌}
+use Rattle.std.proofs.Common.{◌≡◌, ◌⊎◌, inl, inr, ℕ, zero, suc, ◌+◌, ◌<◌, ◌≤◌, max, Bool, true, false, ◌&&◌, not, cond, List, [], ◌∷◌, ◌++◌, length, length-append, map, get_or, set, append_assoc, Option, Some, None, is_some, refl, sym, ◌∙◌, ap, ap₂, subst, arith, IsTrue, IfOk, OnOk, Result, Ok, Err, if◌then◌else◌}
 use Rattle.std.proofs.lemmas.Bool.{cases_Bool}
 use Rattle.std.proofs.lemmas.List.{append-nil}
 use Rattle.std.proofs.lemmas.Option.{none-some, same_Some}
@@ -218,18 +218,17 @@ all_kept m n kept (s ∷ steps) all = (each (paths_of s) all.0, all_kept m n kep
     each [] has = tt
     each (p ∷ ps) has = (kept p has.0, each ps has.1)
 
-pub all_at : (P : Step → Type 0) (steps : List Step) (k : ℕ) (s : Step) → AllByRecursion P steps → k < length steps → s ≡ get_or steps k s → P s
-all_at P [] k s all within is = absurd (omega (arith, within))
-all_at P (x ∷ steps) zero s all within is = subst P (sym is) all.0
-all_at P (x ∷ steps) (suc k) s all within is = all_at P steps k s all.1 (omega (arith, within)) is
+pub none_left : {X : Type 0} (xs : List X) → length xs ≡ 0 → xs ≡ []
+none_left [] e = refl
+none_left (x ∷ xs) e = cc
 
-pub behind_push : (ls : List (List Step)) (steps : List Step) (s : Step) → layers_behind ls (steps ++ s ∷ []) ≡ put (layer_behind (layers_behind ls steps) s) s (layers_behind ls steps)
-behind_push ls [] s = refl
-behind_push ls (x ∷ steps) s = behind_push (put (layer_behind ls x) x ls) steps s
+pub on_ok : {A E P Q : Type 0} (result : Result A E) → (P → Q) → OnOk result P → OnOk result Q
+on_ok (Ok x) gives p = gives p
+on_ok (Err e) gives p = tt
 
-pub joined_push : (ls : List (Vec Step)) (l : Vec Step) → joined (contents (ls ++ l ∷ [])) ≡ joined (contents ls) ++ l.items
-joined_push [] l = append-nil l.items
-joined_push (x ∷ ls) l = ap (λ (xs : List Step). x.items ++ xs) (joined_push ls l) ∙ sym (append_assoc x.items (joined (contents ls)) l.items)
+pub same_list : {E : Type 0} (result : Result (Vec Step) E) (xs ys : List Step) → IfOk result (λ v. v.items ≡ xs) → xs ≡ ys → IfOk result (λ v. v.items ≡ ys)
+same_list (Ok v) xs ys is same = is ∙ same
+same_list (Err e) xs ys is same = tt
 
 -- a layer that is changed, and one more
 pub contents_set : (ls : List (Vec Step)) (n : ℕ) (l : Vec Step) → contents (set ls n l) ≡ set (contents ls) n l.items
@@ -256,6 +255,3 @@ put_there ls n s old new within is pushed =
     contents_set ls n new
     ∙ ap (λ (x : List Step). set (contents ls) n x) (pushed ∙ ap (λ (x : List Step). x ++ s ∷ []) (sym (contents_at ls n old within is)))
     ∙ sym (put_in s n (contents ls) old.items (omega (arith, long, within)))
-
-pub layer_small : (ls : List (Vec Step)) (s : Step) → layer_behind (contents ls) s ≤ length ls
-layer_small ls s = let small = free_small 0 (is_unrelated s) (contents ls) in let long = contents_length ls in omega (arith, small, long)

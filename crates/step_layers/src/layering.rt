@@ -101,7 +101,7 @@ impl Layering {
     }
 
     // The layer of a step.
-    #[tactic(auto, using(crate::proofs::FloorLemmas::one_path, crate::proofs::FloorLemmas::two_paths, crate::proofs::SoundLemmas::layer_small))]
+    #[tactic(auto, using(crate::proofs::FloorLemmas::one_path))]
     fn layer(&self, alloc: Global, step: &Step) -> Result<usize, Memory>
         requires sound { IsSound self.now }
         requires numbered { HasNumbers self.now.numbers step.now }
@@ -122,7 +122,8 @@ impl Layering {
     fn floor(&self, alloc: Global, path: &Path) -> Result<usize, Memory>
         requires sound { IsSound self.now }
         requires numbered { HasNumber self.now.numbers path.now }
-        ensures { IfOk result (λ n. n ≡ free_from 0 (are_apart path.now) (contents self.now.layers.items)) }
+        ensures floor { IfOk result (λ n. n ≡ free_from 0 (are_apart path.now) (contents self.now.layers.items)) }
+        ensures small { IfOk result (λ n. n ≤ length self.now.layers.items) }
     {
         let along = self.numbers.along(alloc, path)?;
         let named = highest(&self.at, &along);
@@ -131,7 +132,6 @@ impl Layering {
     }
 
     // Raises the floors on which the paths of a step bear.
-    #[tactic(auto, using(crate::proofs::SoundLemmas::raised_both))]
     fn raise_step(&mut self, alloc: Global, step: &Step, floor: usize) -> Result<(), Memory>
         requires numbered { IsNumbered self.old }
         requires has { HasNumbers self.old.numbers step.now }

@@ -1,33 +1,33 @@
-use Rattle.std.proofs.Common.{rules, ◌≡◌, ◌<◌, [], length, ap, sym, subst, ◌∙◌}
-use Rattle.std.proofs.lemmas.Iterator.Adapters.{YieldsList-from_vec}
-use Rattle.std.proofs.lemmas.Iterator.Consumers.{YieldsList-end, YieldsList-turn}
-use Rattle.std.proofs.lemmas.List.{map-id}
+use Rattle.std.proofs.Common.{rules, ◌≡◌, ◌<◌, ◌∷◌, [], length, ap, sym, subst, ◌∙◌}
 use Rattle.std.specs.List.{AllByRecursion}
 use Rattle.step_trees.specs.Groups.{joined}
 use Rattle.step_layers.specs.Layering.{contents, HasNumbers}
-use Rattle.step_layers.specs.Layers.{layer_behind, layers_behind, put}
+use Rattle.step_layers.specs.Layers.{by_layer, layers_behind}
 use Rattle.step_layers.proofs.GroupLemmas.{sorted_is}
-use Rattle.step_layers.proofs.SoundLemmas.{all_at, behind_push}
+use Rattle.step_layers.proofs.SoundLemmas.{none_left, same_list}
 use Rattle.step_layers.proofs.sorting.sorted.Goals as goal
 
 pub take-requires-clause-numbered : goal.take-requires-clause-numbered
 take-requires-clause-numbered c =
-    let steps = c.args.steps in
-    let t = YieldsList-turn (YieldsList-from_vec steps.items c.into_iter.ensures.rest (c.into_iter.ensures.len ∙ steps.ok.0)) c.loop-step.yielded _ c.loop-step.yielded_by _ _ c.in-Some.step c.in-Some.is c.next.ensures.steps in
-    all_at (HasNumbers c.loop-step.layering.numbers) steps.items (length c.loop-step.yielded) c.in-Some.step c.loop-step.invariant.numbered t.0 t.1
+    let before : c.loop-step.step-iterator.rest.items ≡ c.in-Some.step ∷ c.next.new.self.rest.items = search rules in
+    (subst (AllByRecursion (HasNumbers c.loop-step.layering.numbers)) before c.loop-step.invariant.numbered).0
 
 pub loop-step-preserved : goal.loop-step-preserved
 loop-step-preserved c =
-    let s = c.in-Some.step in
+    let rest = c.next.new.self.rest.items in
+    let before : c.loop-step.step-iterator.rest.items ≡ c.in-Some.step ∷ rest = search rules in
+    let numbered = (subst (AllByRecursion (HasNumbers c.loop-step.layering.numbers)) before c.loop-step.invariant.numbered).1 in
     record {
       sound = c.in_ok-take.ensures.sound;
-      numbered = subst (λ m. AllByRecursion (HasNumbers m) c.args.steps.items) (sym c.in_ok-take.ensures.numbers) c.loop-step.invariant.numbered;
-      layers = c.in_ok-take.ensures.taken ∙ ap (λ ls. put (layer_behind ls s) s ls) c.loop-step.invariant.layers ∙ sym (behind_push [] c.loop-step.yielded s);
+      numbered = subst (λ m. AllByRecursion (HasNumbers m) rest) (sym c.in_ok-take.ensures.numbers) numbered;
+      layers = ap (λ ls. layers_behind ls rest) c.in_ok-take.ensures.taken
+          ∙ ap (layers_behind (contents c.loop-step.layering.layers.items)) (sym before) ∙ c.loop-step.invariant.layers;
     }
 
 pub returns : goal.returns
 returns c =
-    let steps = c.args.steps in
-    let t = YieldsList-end (YieldsList-from_vec steps.items c.into_iter.ensures.rest (c.into_iter.ensures.len ∙ steps.ok.0)) c.loop-step.yielded _ c.loop-step.yielded_by _ _ c.in-None.is c.next.ensures.steps in
-    let many : 8 < length steps.items = search rules in
-    c.joined.ensures ∙ ap joined (c.loop-step.invariant.layers ∙ ap (layers_behind []) (sym (map-id _) ∙ t.0)) ∙ sym (sorted_is steps.items many)
+    let steps = c.args.steps.items in
+    let none : c.loop-step.step-iterator.rest.items ≡ [] = none_left c.loop-step.step-iterator.rest.items (sym c.loop-step.step-iterator.rest.ok.0 ∙ c.in-None.ensures.steps.0) in
+    let many : 8 < length steps = search rules in
+    same_list c.joined.result (joined (contents c.loop-step.layering.layers.items)) (by_layer steps) c.joined.ensures
+    (ap (λ xs. joined (layers_behind (contents c.loop-step.layering.layers.items) xs)) (sym none) ∙ ap joined c.loop-step.invariant.layers ∙ sym (sorted_is steps many))

@@ -1,20 +1,22 @@
-use Rattle.std.proofs.Common.{rules, ◌≡◌, ◌++◌, ap, sym, ◌∙◌}
-use Rattle.std.proofs.lemmas.Iterator.Adapters.{YieldsList-from_vec}
-use Rattle.std.proofs.lemmas.Iterator.Consumers.{YieldsList-end}
-use Rattle.std.proofs.lemmas.List.{map-id}
+use Rattle.std.proofs.Common.{rules, ◌≡◌, ◌++◌, ◌∷◌, [], append_assoc, ap, sym, ◌∙◌}
+use Rattle.std.proofs.lemmas.List.{append-nil}
 use Rattle.step_trees.specs.Groups.{joined}
 use Rattle.step_layers.specs.Layering.{contents}
-use Rattle.step_layers.proofs.SoundLemmas.{joined_push}
+use Rattle.step_layers.proofs.SoundLemmas.{none_left}
 use Rattle.step_layers.proofs.layering.Layering.joined.Goals as goal
 
 pub loop-layer-preserved : goal.loop-layer-preserved
 loop-layer-preserved c =
     let layer = c.in-Some.layer in
+    let rest = c.next.new.self.rest.items in
+    let before : c.loop-layer.layer-iterator.rest.items ≡ layer ∷ rest = search rules in
     let longer : c.append.new.self.items ≡ c.loop-layer.all.items ++ layer.items = search rules in
-    longer ∙ ap (λ xs. xs ++ layer.items) c.loop-layer.invariant ∙ sym (joined_push c.loop-layer.yielded layer)
+    ap (λ xs. xs ++ joined (contents rest)) longer
+    ∙ append_assoc c.loop-layer.all.items layer.items (joined (contents rest))
+    ∙ ap (λ ls. c.loop-layer.all.items ++ joined (contents ls)) (sym before)
+    ∙ c.loop-layer.invariant
 
 pub returns : goal.returns
 returns c =
-    let layers = c.args.self.layers in
-    let t = YieldsList-end (YieldsList-from_vec layers.items c.into_iter-layer-iterator.ensures.rest (c.into_iter-layer-iterator.ensures.len ∙ layers.ok.0)) c.loop-layer.yielded _ c.loop-layer.yielded_by _ _ c.in-None.is c.next.ensures.steps in
-    c.loop-layer.invariant ∙ ap (λ ls. joined (contents ls)) (sym (map-id _) ∙ t.0)
+    let none : c.loop-layer.layer-iterator.rest.items ≡ [] = none_left c.loop-layer.layer-iterator.rest.items (sym c.loop-layer.layer-iterator.rest.ok.0 ∙ c.in-None.ensures.steps.0) in
+    sym (append-nil c.loop-layer.all.items) ∙ ap (λ ls. c.loop-layer.all.items ++ joined (contents ls)) (sym none) ∙ c.loop-layer.invariant
