@@ -1,8 +1,7 @@
 -- Steps lead where they led in each order that keeps that of related steps.
-use Rattle.std.proofs.Common.{◌≡◌, ◌⊎◌, inl, inr, ℕ, ◌+◌, List, [], ◌∷◌, ◌++◌, length, refl, sym, ◌∙◌, ap, subst, Option, Some, IsPermutation}
+use Rattle.std.proofs.Common.{◌≡◌, inl, inr, ℕ, List, [], ◌∷◌, ◌++◌, refl, sym, ◌∙◌, subst, Option, Some, IsPermutation}
 use Rattle.std.proofs.lemmas.List.Sorted.{IsPermutation-cons, IsPermutation-middle, IsPermutation-refl, IsPermutation-sym, IsPermutation-trans, length_permutation}
 use Rattle.std.specs.List.{AllByRecursion}
-use Rattle.tree_core.specs.declared.node.Node.{Node}
 use Rattle.tree_core.specs.FileTree.{FileTree}
 use Rattle.commit_steps.specs.Steps.{HasPaths}
 use Rattle.commit_steps.specs.declared.step.Step.{Step}
@@ -12,7 +11,7 @@ use Rattle.step_trees.proofs.GroupLemmas.{apart_other, before_back, before_there
 use Rattle.step_trees.proofs.StepLemmas.{IsClearStep}
 use Rattle.step_trees.specs.Apart.{AreApart}
 use Rattle.step_trees.specs.Groups.{AreGroups, Independent, IsGroup, groups, joined}
-use Rattle.step_trees.specs.Leads.{start, file_of, Ends, GroupsSetOthers, HoldsEntries, Leads, LeadsFrom, SetApart, SetOther, SetOthers}
+use Rattle.step_trees.specs.Leads.{start, file_of, Ends, GroupsSetOthers, HoldsEntries, LeadsFrom, SetApart, SetOther, SetOthers}
 use Rattle.step_trees.specs.Steps.{after, step_done, IsBefore, IsStep}
 use Rattle.step_layers.specs.Laws.{OrdersEndAlike, OrdersHaveAll, OrdersLead}
 use Rattle.step_layers.specs.Order.{KeepsOrder, none, placed, SetNever, SetOnce}

@@ -1,7 +1,6 @@
 -- What is kept of steps that are put into layers, call by call.
-use Rattle.std.proofs.Common.{◌≡◌, ◌⊎◌, inl, inr, ℕ, zero, suc, ◌+◌, ◌<◌, ◌≤◌, max, Bool, true, false, ◌&&◌, not, cond, List, [], ◌∷◌, ◌++◌, length, length-append, map, get_or, set, append_assoc, Option, Some, None, is_some, refl, sym, ◌∙◌, ap, ap₂, subst, arith, IsTrue, IfOk, OnOk, Result, Ok, Err, if◌then◌else◌}
+use Rattle.std.proofs.Common.{◌≡◌, ◌⊎◌, inl, inr, ℕ, zero, suc, ◌+◌, ◌<◌, max, Bool, true, false, ◌&&◌, not, cond, List, [], ◌∷◌, ◌++◌, length, length-append, map, get_or, set, Option, Some, None, is_some, refl, sym, ◌∙◌, ap, ap₂, subst, arith, IsTrue, IfOk, OnOk, Result, Ok, Err, if◌then◌else◌}
 use Rattle.std.proofs.lemmas.Bool.{cases_Bool}
-use Rattle.std.proofs.lemmas.List.{append-nil}
 use Rattle.std.proofs.lemmas.Option.{none-some, same_Some}
 use Rattle.std.specs.Global.{Vec}
 use Rattle.std.specs.List.{AllByRecursion, list_all}
@@ -12,13 +11,13 @@ use Rattle.path_map.specs.Walks.{IsPathMap, firsts, is_above, value_at}
 use Rattle.path_map.specs.declared.map.PathMap.{PathMap}
 use Rattle.commit_steps.specs.Tests.{are_apart}
 use Rattle.commit_steps.specs.declared.step.Step.{Step}
-use Rattle.step_trees.specs.Groups.{joined, paths_of}
+use Rattle.step_trees.specs.Groups.{paths_of}
 use Rattle.step_layers.specs.Floors.{floor_at, highest_of, raised_all, raised_at}
-use Rattle.step_layers.specs.Layers.{free_from, is_unrelated, layer_behind, layers_behind, put}
+use Rattle.step_layers.specs.Layers.{free_from, put}
 use Rattle.step_layers.specs.Layering.{contents, HasFloors, HasNumber, HasNumbers, IsNumbered, IsRaised, IsSound}
 use Rattle.step_layers.specs.declared.layering.Layering.{Layering}
-use Rattle.step_layers.proofs.FloorLemmas.{free_related, free_small, highest_named, put_free}
-use Rattle.step_layers.proofs.PutLemmas.{put_end, put_in}
+use Rattle.step_layers.proofs.FloorLemmas.{free_related, highest_named, put_free}
+use Rattle.step_layers.proofs.PutLemmas.{put_in}
 use Rattle.step_layers.proofs.RaiseLemmas.{aboves, highest_is, raised_all_length, raised_here, raised_length, raised_under}
 
 -- ---- no steps

@@ -1,4 +1,4 @@
-use Rattle.std.proofs.Common.{rules, ◌≡◌, ◌<◌, ◌≤◌, ◌++◌, ◌∷◌, [], List, get_or, length, set, sym, ◌∙◌, ap, arith}
+use Rattle.std.proofs.Common.{rules, ◌≡◌, ◌<◌, ◌++◌, ◌∷◌, [], List, length, ◌∙◌, ap, arith}
 use Rattle.commit_steps.specs.declared.step.Step.{Step}
 use Rattle.step_layers.specs.Layering.{contents}
 use Rattle.step_layers.specs.Layers.{put}

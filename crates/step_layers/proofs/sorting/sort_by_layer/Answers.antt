@@ -1,6 +1,6 @@
-use Rattle.std.proofs.Common.{◌≡◌, ap, ◌∙◌}
+use Rattle.std.proofs.Common.{ap, ◌∙◌}
 use Rattle.step_layers.specs.Layers.{by_layer}
-use Rattle.step_layers.proofs.SortedLemmas.{AreSorted, are_sorted}
+use Rattle.step_layers.proofs.SortedLemmas.{are_sorted}
 use Rattle.step_layers.proofs.sorting.sort_by_layer.Goals as goal
 
 pub returns-clause-sorted : goal.returns-clause-sorted

@@ -1,6 +1,6 @@
-use Rattle.std.proofs.Common.{rules, ◌≡◌, ap, sym, subst, ◌∙◌}
+use Rattle.std.proofs.Common.{◌≡◌, ap, sym, subst, ◌∙◌}
 use Rattle.step_layers.specs.Layering.{contents, HasFloors}
-use Rattle.step_layers.specs.Layers.{layer_behind, put}
+use Rattle.step_layers.specs.Layers.{put}
 use Rattle.step_layers.proofs.SoundLemmas.{floors_put}
 use Rattle.step_layers.proofs.layering.Layering.take.Goals as goal
 
