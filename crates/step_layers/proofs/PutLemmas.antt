@@ -11,3 +11,10 @@ pub put_in : (s : Step) (n : ℕ) (ls : List (List Step)) (d : List Step) → n 
 put_in s n [] d within = absurd (omega (arith, within))
 put_in s zero (l ∷ ls) d within = refl
 put_in s (suc n) (l ∷ ls) d within = ap (λ (x : List (List Step)). l ∷ x) (put_in s n ls d (omega (arith, within)))
+
+-- an empty layer more
+pub put_pad : (s : Step) (n : ℕ) (ls : List (List Step)) → n ≡ length ls → put n s (ls ++ [] ∷ []) ≡ put n s ls
+put_pad s zero [] is = refl
+put_pad s (suc n) [] is = absurd (omega (arith, is))
+put_pad s zero (l ∷ ls) is = absurd (omega (arith, is))
+put_pad s (suc n) (l ∷ ls) is = ap (λ (x : List (List Step)). l ∷ x) (put_pad s n ls (omega (arith, is)))
