@@ -3,10 +3,6 @@ use Rattle.std.proofs.Common.{◌≡◌, ℕ, zero, suc, ◌<◌, List, [], ◌�
 use Rattle.commit_steps.specs.declared.step.Step.{Step}
 use Rattle.step_layers.specs.Layers.{put}
 
-pub put_end : (s : Step) (ls : List (List Step)) → put (length ls) s ls ≡ ls ++ (s ∷ []) ∷ []
-put_end s [] = refl
-put_end s (l ∷ ls) = ap (λ (x : List (List Step)). l ∷ x) (put_end s ls)
-
 pub put_in : (s : Step) (n : ℕ) (ls : List (List Step)) (d : List Step) → n < length ls → put n s ls ≡ set ls n (get_or ls n d ++ s ∷ [])
 put_in s n [] d within = absurd (omega (arith, within))
 put_in s zero (l ∷ ls) d within = refl

@@ -1,7 +1,7 @@
 -- What is kept of steps that are put into layers, call by call.
 use Rattle.std.proofs.Common.{◌≡◌, ◌⊎◌, inl, inr, ℕ, zero, suc, ◌+◌, ◌<◌, max, Bool, true, false, ◌&&◌, not, cond, List, [], ◌∷◌, ◌++◌, length, length-append, map, get_or, set, Option, Some, None, is_some, refl, sym, ◌∙◌, ap, ap₂, subst, arith, IsTrue, IfOk, OnOk, Result, Ok, Err, if◌then◌else◌}
 use Rattle.std.proofs.lemmas.Bool.{cases_Bool}
-use Rattle.std.proofs.lemmas.Option.{none-some, same_Some}
+use Rattle.std.proofs.lemmas.Option.{same_Some}
 use Rattle.std.specs.Global.{Vec}
 use Rattle.std.specs.List.{AllByRecursion, list_all}
 use Rattle.std.specs.Ordering.{eq_by_cmp}
@@ -19,22 +19,6 @@ use Rattle.step_layers.specs.declared.layering.Layering.{Layering}
 use Rattle.step_layers.proofs.FloorLemmas.{free_related, highest_named, put_free}
 use Rattle.step_layers.proofs.PutLemmas.{put_in}
 use Rattle.step_layers.proofs.RaiseLemmas.{aboves, highest_is, raised_all_length, raised_here, raised_length, raised_under}
-
--- ---- no steps
-
-pub sound_empty : (l : Layering) → IsPathMap l.numbers → ((p : Names) → value_at l.numbers p ≡ None) → length l.at.items ≡ 0 → length l.under.items ≡ 0 → l.layers.items ≡ [] → IsSound l
-sound_empty l is none no_at no_under no_layers = record {
-  numbered = record {
-    map = is;
-    as_many = no_under ∙ sym no_at;
-    within = λ p i e. absurd (none-some i (sym (none p) ∙ e));
-    one = λ p q i e f. absurd (none-some i (sym (none p) ∙ e));
-  };
-  floors = subst (λ ls. HasFloors (contents ls) l) (sym no_layers) (record {
-    at = λ p. ap (floor_at l.at.items) (none p);
-    under = λ p i e. absurd (none-some i (sym (none p) ∙ e));
-  });
-}
 
 -- ---- a path more
 
@@ -118,16 +102,6 @@ module _ (old new : Layering) (path : Names) (sound : IsSound old) (none : value
     };
     floors = subst (λ ls. HasFloors (contents ls) new) (sym (layers_are ∙ no_layers)) (record { at = floor_none; under = under_zero });
   }
-
-  pub number_kept : (p : Names) → HasNumber old.numbers p → HasNumber new.numbers p
-  number_kept p has = ap is_some (given p) ∙ by (eq_by_cmp path_cmp path p)
-    where
-      by : (b : Bool) → is_some (cond b (Some (length old.at.items)) (value_at old.numbers p)) ≡ true
-      by true = refl
-      by false = has
-
-  pub number_given : HasNumber new.numbers path
-  number_given = ap is_some (given path ∙ ap (λ (b : Bool). cond b (Some (length old.at.items)) (value_at old.numbers path)) ((path_decides path path).1 refl))
 
 -- ---- a path whose floors are raised
 

@@ -56,7 +56,8 @@ impl Layering {
         ensures sound { OnOk result (IsSound self.new) }
         ensures none { self.new.layers.items ≡ [] }
         ensures numbered { OnOk result (HasNumbers self.new.numbers step.now) }
-        ensures kept { OnOk result ((p : Names) → HasNumber self.old.numbers p → HasNumber self.new.numbers p) }
+        ensures kept { OnOk result
+            ((p : Names) → HasNumber self.old.numbers p → HasNumber self.new.numbers p) }
     {
         match step {
             Step::MakeDir(path) => self.number(path),
@@ -75,7 +76,8 @@ impl Layering {
         ensures sound { OnOk result (IsSound self.new) }
         ensures none { self.new.layers.items ≡ [] }
         ensures numbered { OnOk result (HasNumber self.new.numbers path.now) }
-        ensures kept { OnOk result ((p : Names) → HasNumber self.old.numbers p → HasNumber self.new.numbers p) }
+        ensures kept { OnOk result
+            ((p : Names) → HasNumber self.old.numbers p → HasNumber self.new.numbers p) }
     {
         if self.numbers.get(path).is_none() {
             self.numbers.set(path, self.at.len())?;
@@ -91,8 +93,11 @@ impl Layering {
         requires numbered { HasNumbers self.old.numbers step }
         ensures sound { OnOk result (IsSound self.new) }
         ensures numbers { OnOk result (self.new.numbers ≡ self.old.numbers) }
-        ensures taken { OnOk result (contents self.new.layers.items ≡ put (layer_behind (contents self.old.layers.items) step) step (contents self.old.layers.items)) }
+        ensures taken { OnOk result (contents self.new.layers.items
+            ≡ put (layer_behind (contents self.old.layers.items) step) step
+            (contents self.old.layers.items)) }
     {
+        // so one layer more can be counted too
         let _count = self.layers.len();
         let layer = self.layer(alloc, &step)?;
         self.raise_step(alloc, &step, layer + 1)?;
@@ -105,7 +110,8 @@ impl Layering {
     fn layer(&self, alloc: Global, step: &Step) -> Result<usize, Memory>
         requires sound { IsSound self.now }
         requires numbered { HasNumbers self.now.numbers step.now }
-        ensures layer { IfOk result (λ n. n ≡ layer_behind (contents self.now.layers.items) step.now) }
+        ensures layer { IfOk result
+            (λ n. n ≡ layer_behind (contents self.now.layers.items) step.now) }
         ensures small { IfOk result (λ n. n ≤ length self.now.layers.items) }
     {
         match step {
@@ -122,7 +128,8 @@ impl Layering {
     fn floor(&self, alloc: Global, path: &Path) -> Result<usize, Memory>
         requires sound { IsSound self.now }
         requires numbered { HasNumber self.now.numbers path.now }
-        ensures floor { IfOk result (λ n. n ≡ free_from 0 (are_apart path.now) (contents self.now.layers.items)) }
+        ensures floor { IfOk result
+            (λ n. n ≡ free_from 0 (are_apart path.now) (contents self.now.layers.items)) }
         ensures small { IfOk result (λ n. n ≤ length self.now.layers.items) }
     {
         let along = self.numbers.along(alloc, path)?;
@@ -161,7 +168,8 @@ impl Layering {
 
     // All steps, layer by layer.
     pub(crate) fn joined(self, alloc: Global) -> Result<Vec<Step>, Memory>
-        ensures { IfOk result (λ all. all.items ≡ joined_layers (contents self.layers.items)) }
+        ensures { IfOk result
+            (λ all. all.items ≡ joined_layers (contents self.layers.items)) }
     {
         let mut all = Vec::new(alloc);
         for mut layer in self.layers {
