@@ -1,11 +1,10 @@
 -- From the end of a check, a commit or a listing to what a run decides.
-use Rattle.std.proofs.Common.{◌≡◌, ◌⊎◌, inl, inr, ⊎_elim, ℕ, true, false, List, sym, ◌∙◌, ap, subst, refl, Option, Some, None, is_some, IsTrue, Result, Err, IfErr}
+use Rattle.std.proofs.Common.{◌≡◌, inl, inr, ℕ, List, sym, ◌∙◌, ap, subst, refl, Option, Some, None, is_some, IsTrue, Result, Err, IfErr}
 use Rattle.dired_text.specs.Paths.{Names}
 use Rattle.tree_core.specs.declared.changes.Changes.{Changes}
 use Rattle.tree_core.specs.declared.changes.Changes.TheVariants.{Edits}
 use Rattle.tree_core.specs.declared.edit.Edit.{Edit}
 use Rattle.tree_core.specs.declared.faults.Faults.{Faults}
-use Rattle.tree_core.specs.declared.meta.Meta.{Meta}
 use Rattle.tree_core.specs.declared.node.CallName.{CallName}
 use Rattle.tree_core.specs.FileTree.{FileTree, IsFile, IsTree}
 use Rattle.tree_core.specs.History.{History, current_tree}
@@ -35,7 +34,7 @@ use Rattle.dired_run.specs.Faults.{status_of_commit, status_of_fault}
 use Rattle.dired_run.specs.Reports.{decided_of, output_of}
 use Rattle.dired_run.specs.Runs.{Outside, Decides, IsLookFor, no_memory, look_failed, refused, committed, last_text}
 use Rattle.dired_run.specs.Statuses.{IsTreeRefusal, calls_behind, sort_of, text_of}
-use Rattle.dired_run.specs.Verdicts.{Verdict, Makes, on_tree, summary_of, summary_text, unless}
+use Rattle.dired_run.specs.Verdicts.{Makes, on_tree, summary_text, unless}
 
 -- ---- the check
 

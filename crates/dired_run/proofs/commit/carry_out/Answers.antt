@@ -1,4 +1,4 @@
-use Rattle.std.proofs.Common.{refl, sym, ◌∙◌}
+use Rattle.std.proofs.Common.{refl, ◌∙◌}
 use Rattle.std.proofs.lemmas.Result.{err_from_is_err_and}
 use Rattle.dired_run.specs.Reports.{decided_of, output_of}
 use Rattle.dired_run.specs.Runs.{no_memory, outside}
