@@ -44,6 +44,7 @@ fuzz: $(CASES) $(PLANS)
 	bash scripts/fuzz-cases.sh generate.py $(CASES) $(COUNT) $(SEED)
 	bash scripts/fuzz-cases.sh generate_plans.py $(PLANS) $(COUNT) $(SEED)
 	bash scripts/fuzz-cases.sh generate_commits.py $(PLANS) $(COUNT) $(SEED)
+	bash scripts/fuzz-cases.sh generate_recoveries.py $(PLANS) $(COUNT) $(SEED)
 
 # The program is killed at each of its changing calls on real folders, and each of them fails; what stands is recovered.
 crash: $(PROGRAM)

@@ -38,9 +38,26 @@ def many():
     ]
 
 
+def layered():
+    """More than eight steps, which a commit sorts by what they depend on: swaps, moves into new directories, files replaced by new ones,
+    modes below directories that move, and eight steps, which stay as they are."""
+    swaps, moved = files(" ".join("a%d b%d" % (number, number) for number in range(4))), files("x0 x1 x2 x3")
+    full = files("a b c d").add_link(("l",), "x")
+    dirs = files("d0/x d1/x d2/x", "d0 d1 d2")
+    pairs = [("a%d" % number, "b%d" % number) for number in range(4)]
+    return [
+        case("four-swaps", swaps, *renames(swaps, *pairs, *[(other, one) for one, other in pairs])),
+        case("moves-into-new-directories", moved, *[edit(moved, "x%d" % number, "n%d/deep/x" % number) for number in range(4)]),
+        case("replaced-by-new-files", full, *[creation(name, "file", 0o644, name.encode()) for name in "abcd"], creation("l", "link", "y"), confirmed=None),
+        case("modes-below-moved-directories", dirs, *[edit(dirs, "d%d" % number, "d%d" % (number + 1)) for number in range(3)],
+             *[edit(dirs, "d%d/x" % number, "y%d" % number, mode=0o600) for number in range(3)]),
+        case("eight-steps", files("a b c d e f g"), *renames(files("a b c d e f g"), ("a", "b"), ("b", "a"), *[(name, name + "2") for name in "cdefg"])),
+    ]
+
+
 def whole():
     """Commits in which nothing fails."""
-    return [CommitCase(one, one.name, Schedule()) for one in worked() + small() + many()]
+    return [CommitCase(one, one.name, Schedule()) for one in worked() + small() + many() + layered()]
 
 
 def failing_once(cases, fates=(False, True)):
@@ -97,7 +114,7 @@ def all_cases():
     few = [one for one in small() if one.name not in ("rename-and-mode", "directory-removed")]
     # every fifth pair, as a program that is tried may print one mebibyte
     pairs = failing_twice(traded)[::5]
-    return whole() + failing_once(small()) + failing_once(many(), (False,)) + pairs + failing_looks(traded) + stopped(few)
+    return whole() + failing_once(small()) + failing_once(many() + [one for one in layered() if shows_steps(one)], (False,)) + pairs + failing_looks(traded) + stopped(few)
 
 
 # ---- drawn ones

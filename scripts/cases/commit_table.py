@@ -1,5 +1,5 @@
 """Cases of commits, the table that asks for them, and what must come. docs/CASES.md has the form of both texts."""
-from commits import Commit
+from commits import Commit, sorted_by_layer
 from disks import Disk
 from interrupted import Interrupted, same
 from plan_table import answer, asked as asked_of_plan, fault_text
@@ -62,7 +62,7 @@ def rows_of(case):
     """The table of what may stand for a case."""
     disk, _ = committed(case, NoSchedule())
     entries = entries_made(case)
-    return Interrupted(case.tree, edited_tree_of(case, entries), plan(case.tree, case.changes)[0], entries)
+    return Interrupted(case.tree, edited_tree_of(case, entries), sorted_by_layer(plan(case.tree, case.changes)[0]), entries)
 
 
 class NoSchedule:

@@ -62,6 +62,23 @@ def cuts(steps):
     return places + [len(steps)]
 
 
+def sorted_by_layer(steps):
+    """The steps in the order in which a commit does them. A step depends on an earlier one where a path that it names is equal to, below or
+    above one that that names. It is in layer 0 where it depends on none, and else in the one behind the highest on which it depends; in a
+    layer the steps keep their order. A list of few steps stays as it is."""
+    if len(steps) <= FEW_STEPS:
+        return list(steps)
+    layers = []
+    for place, step in enumerate(steps):
+        layers.append(max([layers[other] + 1 for other in range(place) if depends(step, steps[other])], default=0))
+    return [steps[place] for place in sorted(range(len(steps)), key=lambda place: layers[place])]
+
+
+def depends(step, other):
+    """Whether a path that the step names is equal to, below or above one that the other names."""
+    return any(path[:len(named_there)] == named_there[:len(path)] for path in named(step) for named_there in named(other))
+
+
 def look(disk, step, undoing):
     """Whether a step is still to be done ("before"), was done ("after"), or neither (None)."""
     kind, path, *words = step
@@ -87,12 +104,12 @@ def look(disk, step, undoing):
 # ---- a commit
 
 class Commit:
-    """The commit of steps; `fresh` are the new entries as ("link", target), ("file", mode, bytes) or ("same", path), and `held` tells of
+    """The commit of the steps of a plan; `fresh` are the new entries as ("link", target), ("file", mode, bytes) or ("same", path), and `held` tells of
     each entry that is put aside whether it is a directory."""
 
     def __init__(self, disk, steps, fresh, held):
-        self.disk, self.steps, self.fresh, self.held = disk, steps, fresh, held
-        self.cuts = cuts(steps)
+        self.disk, self.steps, self.fresh, self.held = disk, sorted_by_layer(steps), fresh, held
+        self.cuts = cuts(self.steps)
 
     def run(self):
         """How it ends: ("done",), or a name with the calls that failed."""

@@ -441,6 +441,8 @@ def recoveries():
         ("forward", staged(("plan", SWAP), ("at-0", b"")), "recover"), ("back", staged(("plan", SWAP), ("at-0", b"")), "recover --back"),
         ("version 1, forward", staged(("plan", SWAP_1), ("at-0", b"")), "recover"),
         ("version 1, back", staged(("plan", SWAP_1), ("at-0", b"")), "recover --back"),
+        ("version 1 at step 1, forward", staged(("plan", SWAP_1), ("t0", b"a"), ("at-1", b""), names="a"), "recover"),
+        ("version 1 at step 1, back", staged(("plan", SWAP_1), ("t0", b"a"), ("at-1", b""), names="a"), "recover --back"),
         ("version 1, cut", staged(("plan", SWAP_1[:60]), ("at-0", b"")), "recover"))]
     aside = Tree().add_dir(("d",)).add_dir((".wdired-commit",), 0o700)
     aside.add_file(("d", "x"))

@@ -32,6 +32,8 @@ def marker(name):
 class Recovery:
     def __init__(self, disk, back):
         self.disk, self.back = disk, back
+        # what the names were found to stand for
+        self.kinds = {}
 
     def run(self):
         try:
@@ -85,7 +87,7 @@ class Recovery:
         return journal, marker(marks[0]) if marks else None, entries
 
     def may_stand(self, name, journal):
-        kind = self.disk.kind(own(name))
+        kind = self.kinds[name] = self.disk.kind(own(name))
         if name == journal or (journal is None and name in ("new", "at-0")):
             return kind == "file"
         if entry(name):
@@ -110,22 +112,22 @@ class Recovery:
 
     def from_journal(self, journal, mark, steps, entries):
         if journal == "done":
-            self.clear(entries, "h", DONE, [at(mark[1])] if mark else [])
+            self.clear(entries, DONE, [at(mark[1])] if mark else [])
             return "edited"
         if journal == "undone":
-            self.clear(entries, "f", UNDONE, [back_at(mark[1])] if mark else [])
+            self.clear(entries, UNDONE, [back_at(mark[1])] if mark else [])
             return "old"
         side, place = mark
         if side == "at" and not self.back:
             self.go_forward(steps, place)
             self.end(steps, entries, "ft", "h", PLAN, DONE)
-            self.clear(entries, "h", DONE, [at(len(steps))])
+            self.clear(self.left(entries, "h"), DONE, [at(len(steps))])
             return "edited"
         if side == "at":
             place = self.turn(steps, place)
         self.go_back(steps, place)
         self.end(steps, entries, "ht", "f", PLAN, UNDONE)
-        self.clear(entries, "f", UNDONE, [back_at(0)])
+        self.clear(self.left(entries, "f"), UNDONE, [back_at(0)])
         return "old"
 
     def seen(self, steps, place, undoing):
@@ -173,12 +175,18 @@ class Recovery:
         self.disk.rename(journal, last)
         self.disk.sync()
 
-    def clear(self, entries, letter, journal, marks):
+    def left(self, entries, letter):
+        """Those of this letter, whose kinds are those that they have now: each is removed as it comes."""
         for found, number in entries:
-            path = own("%s%d" % (found, number))
-            kind = self.disk.kind(path) if found == letter else None
-            if kind is not None:
-                self.disk.do(("remove_dir" if kind == "dir" else "remove", path))
+            if found == letter:
+                self.kinds["%s%d" % (found, number)] = self.disk.kind(own("%s%d" % (found, number)))
+                yield found, number
+
+    def clear(self, entries, journal, marks):
+        for letter, number in entries:
+            name = "%s%d" % (letter, number)
+            if self.kinds[name] is not None:
+                self.disk.do(("remove_dir" if self.kinds[name] == "dir" else "remove", own(name)))
         for path in marks:
             self.disk.do(("remove", path))
         self.disk.sync()

@@ -2,6 +2,7 @@
 use crate::carrying::carry_out;
 use crate::checking::check_asked;
 use crate::committing::commit_asked;
+use crate::recovering::recover_scheduled;
 use crate::report::{answer_text, push_plan};
 use crate::row::{Row, Shows, read_row};
 use case_tables::{RowFault, Schedule, Table, TreeRows, head_text};
@@ -50,6 +51,7 @@ impl Case {
             Row::Check => return self.run(None),
             Row::Plan { shows, carries } => return self.run(Some((shows, carries))),
             Row::Commit => return self.commit(),
+            Row::Recover { back } => return self.recover(back),
             Row::Entry(entry) => self.entries.push(line, entry)?,
             Row::Schedule(row) => self.schedule.take(row)?,
             row => self.take_change(row)?,
@@ -95,6 +97,14 @@ impl Case {
         let changes = self.changes()?;
         let confirmed = self.confirmed();
         let text = commit_asked(self.alloc, tree, changes, &confirmed, &self.schedule)?;
+        *self = Case::new(self.alloc);
+        Ok(text)
+    }
+
+    // Has what a commit left recovered, and answers what is printed of it. The case has said nothing then.
+    fn recover(&mut self, back: bool) -> Result<String, RowFault> {
+        let tree = self.entries.build()?;
+        let text = recover_scheduled(self.alloc, tree, back, &self.schedule)?;
         *self = Case::new(self.alloc);
         Ok(text)
     }

@@ -77,8 +77,8 @@ fn push_at(text: &mut String, word: &str, line: u32, path: &Path) -> Result<(), 
     push_path(text, path)
 }
 
-// A word and a number behind it.
-fn push_number(text: &mut String, word: &str, number: u64) -> Result<(), Memory> {
+/// A word and a number behind it.
+pub fn push_number(text: &mut String, word: &str, number: u64) -> Result<(), Memory> {
     let number = format!(in *text.allocator(); " {number}")?;
     text.push_str(word)?;
     text.push_str(number.as_str())?;

@@ -40,6 +40,8 @@ pub enum Row {
     Schedule(ScheduleRow),
     /// The changes are checked and committed.
     Commit,
+    /// What a commit left in the tree is recovered, or taken back.
+    Recover { back: bool },
 }
 
 /// What a line says.
@@ -64,6 +66,8 @@ pub fn read_row(alloc: Global, line: &str) -> Result<Row, RowFault> {
         ["plan", shows] => plan_of(shows, false),
         ["plan", shows, "tree"] => plan_of(shows, true),
         ["commit"] => Ok(Row::Commit),
+        ["recover"] => Ok(Row::Recover { back: false }),
+        ["recover", "back"] => Ok(Row::Recover { back: true }),
         ["fail-change" | "fail-look" | "stop", ..] => Ok(Row::Schedule(schedule_row_of(&fields)?)),
         _ => Err(RowFault::Bad),
     }

@@ -1,9 +1,11 @@
 -- How a recovery ends that doesn't begin, or where nothing stands.
-use Rattle.std.proofs.Common.{◌≡◌, inl, Bool, subst}
+use Rattle.std.proofs.Common.{◌≡◌, inl, ℕ, Bool, true, false, subst}
 use Rattle.commit_recover.specs.declared.end.RecoverEnd.{RecoverEnd}
+use Rattle.commit_recover.specs.declared.end.RecoverEnd.TheVariants as end
 use Rattle.commit_recover.specs.Answers.{Answers}
-use Rattle.commit_recover.specs.Faults.{NamesFaults}
+use Rattle.commit_recover.specs.Faults.{IsKept, NamesFaults}
 use Rattle.commit_recover.specs.Starts.{end_of_start}
+use Rattle.commit_recover.specs.Tasks.{is_worked}
 use Rattle.dired_text.specs.Paths.{Names}
 use Rattle.recovery_start.specs.declared.end.StartEnd.{StartEnd}
 use Rattle.recovery_start.specs.declared.end.StartEnd.TheVariants as start
@@ -31,3 +33,26 @@ not_begun_faults old new (start.TreeFault call) is = is
 -- a start that only looked leaves the history
 pub from_start : (way : Bool) (old mid now : History) (before : FileTree) (e : RecoverEnd) → mid ≡ old → Answers way mid now before e → Answers way old now before e
 from_start way old mid now before e is answers = subst (λ (h : History). Answers way h now before e) is answers
+
+-- ---- what was changed
+
+pub not_begun_kept : (old new : ℕ) (e : StartEnd) → new ≡ old → IsKept old new (end_of_start e)
+not_begun_kept old new (start.Foreign name) same = same
+not_begun_kept old new (start.BadJournal offset) same = same
+not_begun_kept old new start.Memory same = same
+not_begun_kept old new (start.TreeFault call) same = tt
+
+pub kept_from_start : (old mid now : ℕ) (e : RecoverEnd) → mid ≡ old → IsKept mid now e → IsKept old now e
+kept_from_start old mid now e is kept = subst (λ n. IsKept n now e) is kept
+
+-- one that worked says nothing of it
+pub worked_kept : (old now : ℕ) (e : RecoverEnd) → is_worked e ≡ true → IsKept old now e
+worked_kept old now end.Nothing worked = tt
+worked_kept old now end.Edited worked = tt
+worked_kept old now end.Old worked = tt
+worked_kept old now end.Cleared worked = tt
+worked_kept old now end.Memory worked = absurd (let wrong : false ≡ true = worked in cc)
+worked_kept old now (end.TreeFault first) worked = tt
+worked_kept old now (end.BadJournal offset) worked = absurd (let wrong : false ≡ true = worked in cc)
+worked_kept old now (end.Foreign name) worked = absurd (let wrong : false ≡ true = worked in cc)
+worked_kept old now (end.Strange step) worked = tt

@@ -1,6 +1,6 @@
 // A recovery.
 ghost use Rattle.commit_recover.specs.Answers.{Answers};
-ghost use Rattle.commit_recover.specs.Faults.{NamesFaults};
+ghost use Rattle.commit_recover.specs.Faults.{IsKept, NamesFaults};
 ghost use Rattle.commit_recover.specs.Recovers.{Recovers};
 ghost use Rattle.commit_steps.specs.Staging.{staging};
 ghost use Rattle.recovery_start.specs.Start.{IsSortedOut, IsStanding};
@@ -28,6 +28,7 @@ pub fn recover<T: Tree>(alloc: Global, tree: &mut T, back: bool) -> RecoverEnd
     ensures answers { T.Tells → Answers back (T.history tree.old) (T.history tree.new)
         (T.before_failed tree.new) result }
     ensures faults { NamesFaults (T.faults tree.old) (T.faults tree.new) result }
+    ensures kept { IsKept (T.changes tree.old) (T.changes tree.new) result }
 {
     match find_leftovers(alloc, tree) {
         Ok(None) => settled(tree, back),
@@ -42,6 +43,7 @@ fn settled<T: Tree>(tree: &mut T, back: bool) -> RecoverEnd
     ensures answers { T.Tells → Answers back (T.history tree.old) (T.history tree.new)
         (T.before_failed tree.new) result }
     ensures faults { NamesFaults (T.faults tree.old) (T.faults tree.new) result }
+    ensures kept { IsKept (T.changes tree.old) (T.changes tree.new) result }
 {
     match sync(tree) {
         Ok(()) => RecoverEnd::Nothing,
@@ -56,6 +58,7 @@ fn recovered<T: Tree>(alloc: Global, tree: &mut T, left: Leftovers, back: bool) 
     ensures answers { T.Tells → Answers back (T.history tree.old) (T.history tree.new)
         (T.before_failed tree.new) result }
     ensures faults { NamesFaults (T.faults tree.old) (T.faults tree.new) result }
+    ensures kept { IsKept (T.changes tree.old) (T.changes tree.new) result }
 {
     match task_for(alloc, left, back) {
         Ok(task) => match sync_and_carry_out(tree, &task) {

@@ -1,15 +1,17 @@
 -- How a commit ends, by what failed.
-use Rattle.std.proofs.Common.{◌≡◌, ◌⊎◌, inl, inr, ⊎_elim, ◌+◌, ◌<◌, List, [], ◌∷◌, ◌++◌, length, take, drop, refl, sym, ◌∙◌, ap, subst, Result, Ok, Err}
+use Rattle.std.proofs.Common.{◌≡◌, ◌⊎◌, inl, inr, ⊎_elim, ℕ, ◌+◌, ◌<◌, true, false, List, [], ◌∷◌, ◌++◌, length, take, drop, refl, sym, ◌∙◌, ap, subst, Result, Ok, Err}
 use Rattle.std.specs.List.{AllByRecursion}
 use Rattle.std.proofs.lemmas.List.{drop_more, take-append-drop}
 use Rattle.commit_calls.specs.declared.group.Stopped.{Stopped}
 use Rattle.commit_calls.specs.Cuts.{StoppedIn, cut_at, group_at}
 use Rattle.commit_calls.proofs.EndLemmas.{stopped_among}
+use Rattle.commit_run.specs.declared.end.CommitEnd.{CommitEnd}
 use Rattle.commit_run.specs.declared.end.CommitEnd.TheVariants as end
 use Rattle.commit_run.specs.declared.prepared.Prepared.{Prepared}
 use Rattle.commit_run.specs.BeforePlan.{way_before}
 use Rattle.commit_run.specs.Begun.{Begun, EndsRun, run_from}
 use Rattle.commit_run.specs.Ends.{MayStand, Run, StoodAt, end_behind, old_tree}
+use Rattle.commit_run.specs.Faults.{IsKept, is_begun}
 use Rattle.commit_run.specs.Preparing.{IsPrepared}
 use Rattle.commit_run.specs.Sealing.{finish_calls, sealed_rename}
 use Rattle.commit_run.specs.WayBack.{way_back}
@@ -230,3 +232,14 @@ module _ (p : Prepared) (is : IsPrepared p) (o : History) (new : FileTree) (begu
         };
         place = tt;
       }
+
+-- ---- what was changed
+
+-- one for which there was memory says nothing of it
+pub kept_begun : (old now : ℕ) (e : CommitEnd) → is_begun e ≡ true → IsKept old now e
+kept_begun old now end.Done begun = tt
+kept_begun old now end.Memory begun = absurd (let wrong : false ≡ true = begun in cc)
+kept_begun old now (end.TreeFault first) begun = tt
+kept_begun old now (end.RolledBack first) begun = tt
+kept_begun old now (end.Unfinished first second) begun = tt
+kept_begun old now (end.Unclean first) begun = tt

@@ -1,11 +1,13 @@
 -- What a commit takes with it fits each tree that the check stands for.
-use Rattle.std.proofs.Common.{◌≡◌, ℕ, ◌≤◌, Bool, List, length, sym, ◌∙◌, ap, subst, Result, Ok, Err, IfOk}
+use Rattle.std.proofs.Common.{◌≡◌, ℕ, ◌+◌, ◌≤◌, Bool, List, length, sym, ◌∙◌, ap, subst, arith, IsPermutation, Result, Ok, Err, IfOk}
+use Rattle.std.proofs.lemmas.List.Sorted.{length_permutation}
 use Rattle.std.specs.List.{AllByRecursion}
 use Rattle.dired_text.specs.Paths.{Names}
 use Rattle.commit_journal.specs.declared.version.Version.TheVariants.{Two}
 use Rattle.commit_journal.specs.Grammar.{IsJournalOf}
-use Rattle.commit_journal.specs.Spelling.{CanEncode, journal_text}
-use Rattle.commit_plan.specs.Promises.{IsOldTree}
+use Rattle.commit_journal.specs.Spelling.{journal_text}
+use Rattle.commit_journal.proofs.GrammarLemmas.{journal_spelled, journal_spells}
+use Rattle.commit_plan.specs.Promises.{AreCounted, IsOldTree}
 use Rattle.commit_plan.proofs.PlanLemmas.{plan_there, planned}
 use Rattle.commit_run.specs.HeldFrom.{kinds_from}
 use Rattle.commit_run.specs.Preparing.{FitsTrees}
@@ -15,6 +17,7 @@ use Rattle.commit_states.specs.declared.held.Held.{Held}
 use Rattle.commit_states.specs.Fits.{Fits}
 use Rattle.commit_states.specs.Interrupted.{IsWritten, max_journal_bytes}
 use Rattle.commit_steps.specs.declared.step.Step.{Step}
+use Rattle.commit_steps.specs.Steps.{HasPaths}
 use Rattle.edit_check.specs.declared.checked.Checked.{Checked}
 use Rattle.edit_check.specs.StandFor.{CanBeMadeWhereItStands, IsChecked, ListedWhereItStands, changes_in, confirmed_in, found_in}
 use Rattle.edit_rules.specs.Plans.{victims_of}
@@ -25,9 +28,15 @@ use Rattle.edit_words.specs.Sight.{sight_of}
 use Rattle.plan_fits.specs.HeldKinds.{held_of, numbered}
 use Rattle.plan_fits.specs.Laws.{AreBelow, HasText, made_for}
 use Rattle.plan_fits.proofs.FitLemmas.{plan_fits}
+use Rattle.plan_fits.proofs.MadeLemmas.{made_as_asked}
 use Rattle.plan_journals.proofs.Fits.{fits}
+use Rattle.plan_journals.proofs.Spelled.{spelled}
 use Rattle.plan_laws.specs.Laws.{HaveNames}
 use Rattle.plan_moves.specs.Plan.{IsPlan}
+use Rattle.plan_orders.proofs.FitLemmas.{orders_fit}
+use Rattle.plan_orders.proofs.OnceLemmas.{plan_once}
+use Rattle.plan_orders.proofs.SpellLemmas.{all_from, orders_can_be_spelled}
+use Rattle.step_layers.specs.Order.{KeepsOrder}
 use Rattle.tree_core.specs.declared.changes.Fresh.{Fresh}
 use Rattle.tree_core.specs.FileTree.{FileTree}
 
@@ -39,31 +48,52 @@ short_enough n h = h
 
 -- ---- in a tree
 
-module _ (checked : Checked) (can : CanBeMadeWhereItStands checked) (listed : ListedWhereItStands checked) (is : IsChecked checked) (steps : List Step)
-    (plan : IsPlan (found_in checked) (rows (changes_in checked)) steps) where
+module _ (checked : Checked) (can : CanBeMadeWhereItStands checked) (listed : ListedWhereItStands checked) (is : IsChecked checked) (steps sorted : List Step)
+    (plan : IsPlan (found_in checked) (rows (changes_in checked)) steps) (keeps : KeepsOrder steps sorted) where
   abbrev rs : List Row
   rs = rows (changes_in checked)
 
-  written : (journal : List ℕ) → IsJournalOf Two steps journal → journal ≡ journal_text Two steps → IsWritten steps journal
+  written : (journal : List ℕ) → IsJournalOf Two sorted journal → journal ≡ journal_text Two sorted → IsWritten sorted journal
   written journal spelled text = record {
     journal = spelled;
-    short = short_enough (length journal) (subst (λ (b : List ℕ). length b ≤ 1_073_741_824) (sym text) (fits (found_in checked) (confirmed_in checked) (changes_in checked) steps is.asked is.taken plan).short);
+    short = short_enough (length journal) (subst (λ (b : List ℕ). length b ≤ 1_073_741_824) (sym text) (orders_can_be_spelled checked steps sorted is plan keeps).1);
   }
+
+  -- a journal of the steps as they were planned
+  planned_journal : AllByRecursion HasPaths sorted → IsWritten steps (journal_text Two steps)
+  planned_journal paths =
+      let spell = spelled checked steps is plan in
+      record {
+        journal = journal_spells Two steps (record { few = spell.few; lawful = spell.lawful; paths = all_from HasPaths steps sorted keeps paths; within = spell.within });
+        short = short_enough (length (journal_text Two steps)) (fits (found_in checked) (confirmed_in checked) (changes_in checked) steps is.asked is.taken plan).short;
+      }
 
   held_there : (t : FileTree) → IsOldTree checked t → numbered 0 (kinds_from (victims_of (found_in checked) rs) rs) ≡ held_of (sight_of t) rs
   held_there t old =
       ap (λ (vs : List (ℕ × Names)). numbered 0 (kinds_from vs rs)) (listed t old.found).victims
       ∙ ap (λ (l : List (Names × Bool)). numbered 0 l) (kinds_are (sight_of t) rs is.asked.lines)
 
-  pub fits_there : (fresh : List Fresh) (journal : List ℕ) (held : List Held) → fresh ≡ asked_fresh (changes_in checked) → IsJournalOf Two steps journal → journal ≡ journal_text Two steps
-      → held ≡ numbered 0 (kinds_from (victims_of (found_in checked) rs) rs) → HaveNames rs → AllByRecursion HasText fresh → CanEncode steps
+  pub fits_there : (fresh : List Fresh) (journal : List ℕ) (held : List Held) → fresh ≡ asked_fresh (changes_in checked) → IsJournalOf Two sorted journal → journal ≡ journal_text Two sorted
+      → held ≡ numbered 0 (kinds_from (victims_of (found_in checked) rs) rs) → HaveNames rs → AllByRecursion HasText fresh
       → (t : FileTree) (next : ℕ) → IsOldTree checked t → AreBelow t next
-      → Fits steps fresh journal held (edited t rs (made_for t (changes_in checked) next)) t next
-  fits_there fresh journal held asked spelled text put_aside names texts encodes t next old below =
-      let one = plan_fits t (changes_in checked) steps next (planned checked can listed is.asked steps plan t old) names
-      (subst (AllByRecursion HasText) asked texts) below (plan_there checked can listed is.asked steps plan t old.found) journal encodes.few (written journal spelled text) in
-      let two = subst (λ (fs : List Fresh). Fits steps fs journal (held_of (sight_of t) rs) (edited t rs (made_for t (changes_in checked) next)) t next) (sym asked) one in
-      subst (λ (hs : List Held). Fits steps fresh journal hs (edited t rs (made_for t (changes_in checked) next)) t next) (sym (put_aside ∙ held_there t old)) two
+      → Fits sorted fresh journal held (edited t rs (made_for t (changes_in checked) next)) t next
+  fits_there fresh journal held asked journal_is text put_aside names texts t next old below =
+      let there = plan_there checked can listed is.asked steps plan t old.found in
+      let set = planned checked can listed is.asked steps plan t old in
+      let one = plan_fits t (changes_in checked) steps next set names (subst (AllByRecursion HasText) asked texts) below there
+      (journal_text Two steps) (spelled checked steps is plan).few (planned_journal ((journal_spelled Two sorted journal journal_is).0).paths) in
+      let made = made_as_asked t next below (changes_in checked) (next + 1) (omega arith) one.lawful in
+      let once = plan_once t (changes_in checked) (made_for t (changes_in checked) next) steps set names made there in
+      let in_order = orders_fit steps sorted (asked_fresh (changes_in checked)) (journal_text Two steps) journal (held_of (sight_of t) rs) (edited t rs (made_for t (changes_in checked) next)) t next
+      one once keeps (written journal journal_is text) in
+      let two = subst (λ (fs : List Fresh). Fits sorted fs journal (held_of (sight_of t) rs) (edited t rs (made_for t (changes_in checked) next)) t next) (sym asked) in_order in
+      subst (λ (hs : List Held). Fits sorted fresh journal hs (edited t rs (made_for t (changes_in checked) next)) t next) (sym (put_aside ∙ held_there t old)) two
+
+-- as many steps
+pub counted_result : {E : Type 0} (checked : Checked) (result : Result Prepared E) (steps sorted : List Step) → AreCounted checked steps → IsPermutation steps sorted
+    → IfOk result (λ p. p.steps ≡ sorted) → IfOk result (λ p. AreCounted checked p.steps)
+counted_result checked (Ok p) steps sorted counted same steps_are = λ t stands. ap length steps_are ∙ length_permutation steps sorted same ∙ counted t stands
+counted_result checked (Err e) steps sorted counted same steps_are = tt
 
 -- what has these parts
 pub fits_result : {E : Type 0} (checked : Checked) (result : Result Prepared E) (steps : List Step) (fresh : List Fresh) (held : List Held) (journal : List ℕ)

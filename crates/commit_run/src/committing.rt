@@ -1,10 +1,10 @@
 // A commit.
-ghost use Rattle.std.specs.Prelude.{◌≡◌, ◌<◌, length};
+ghost use Rattle.std.specs.Prelude.{◌≡◌, ◌<◌, length, true};
 ghost use Rattle.commit_plan.specs.Promises.{IsOldTree};
 ghost use Rattle.commit_run.specs.Begun.{EndsFrom, EndsFromSeal, StandsAtSeal, StandsBehind, stepped, synced};
 ghost use Rattle.commit_run.specs.Commits.{Commits};
 ghost use Rattle.commit_run.specs.Ends.{end_behind};
-ghost use Rattle.commit_run.specs.Faults.{NamesFaults, NamesSecond};
+ghost use Rattle.commit_run.specs.Faults.{IsKept, NamesFaults, NamesSecond, is_begun};
 ghost use Rattle.commit_run.specs.Preparing.{IsPrepared};
 ghost use Rattle.commit_run.specs.Sealing.{finish_calls};
 ghost use Rattle.edit_check.specs.StandFor.{changes_in};
@@ -34,6 +34,7 @@ pub fn commit<T: Tree>(alloc: Global, tree: &mut T, checked: Checked) -> CommitE
     ensures commit { T.Tells → Commits (changes_in checked)
         (T.history tree.old) (T.history tree.new) (T.before_failed tree.new) result }
     ensures faults { NamesFaults (T.faults tree.old) (T.faults tree.new) result }
+    ensures kept { IsKept (T.changes tree.old) (T.changes tree.new) result }
 {
     let Ok(prepared) = prepare(alloc, &checked) else {
         return CommitEnd::Memory;
@@ -55,6 +56,7 @@ fn carry_out<T: Tree>(tree: &mut T, prepared: &Prepared) -> CommitEnd
     ensures ends { T.Tells → EndsFrom prepared.now synced
         (T.history tree.old) (T.history tree.new) (T.before_failed tree.new) result }
     ensures faults { NamesFaults (T.faults tree.old) (T.faults tree.new) result }
+    ensures begun { is_begun result ≡ true }
 {
     let staged = stage(
         tree,
@@ -82,6 +84,7 @@ fn seal_and_clean<T: Tree>(tree: &mut T, prepared: &Prepared) -> CommitEnd
     ensures ends { T.Tells → EndsFrom prepared.now (stepped prepared.now)
         (T.history tree.old) (T.history tree.new) (T.before_failed tree.new) result }
     ensures faults { NamesFaults (T.faults tree.old) (T.faults tree.new) result }
+    ensures begun { is_begun result ≡ true }
 {
     if let Err(first) = rename(tree, &prepared.paths.plan, &prepared.paths.sealed) {
         return unsealed(tree, prepared, first);
@@ -122,6 +125,7 @@ fn unsealed<T: Tree>(tree: &mut T, prepared: &Prepared, first: CallName) -> Comm
         (T.history tree.old) (T.before_failed tree.old)
         (T.history tree.new) (T.before_failed tree.new) result }
     ensures faults { NamesSecond first (T.faults tree.old) (T.faults tree.new) result }
+    ensures begun { is_begun result ≡ true }
 {
     match stands(tree, &prepared.paths.sealed) {
         Ok(true) => CommitEnd::Unclean { first },
@@ -132,7 +136,8 @@ fn unsealed<T: Tree>(tree: &mut T, prepared: &Prepared, first: CallName) -> Comm
 
 // The end behind a way back.
 fn ended(first: CallName, back: Result<(), CallName>) -> CommitEnd
-    ensures { result ≡ end_behind first back }
+    ensures end { result ≡ end_behind first back }
+    ensures begun { is_begun result ≡ true }
 {
     match back {
         Ok(()) => CommitEnd::RolledBack { first },

@@ -26,6 +26,7 @@ use edit_check::{Checked, changes_can_be_made_where_it_stands, what_is_checked};
 use edit_words::rows_of;
 use std::alloc::Global;
 use step_cuts::cuts;
+use step_layers::sort_by_layer;
 use step_looks::{Parents, parents_of};
 use tree_core::Fresh;
 
@@ -64,7 +65,12 @@ pub(crate) fn prepare(alloc: Global, checked: &Checked) -> Result<Prepared, Memo
     what_is_checked(checked);
     read_names(&rows);
     let held = held_by(alloc, &rows, checked.victims())?;
-    let Plan { steps, fresh } = plan(alloc, checked)?;
+    let Plan {
+        steps: planned,
+        fresh,
+    } = plan(alloc, checked)?;
+    // Few groups want few syncs.
+    let steps = sort_by_layer(alloc, planned)?;
     read_texts(&fresh);
     let journal = encode(alloc, &steps)?;
     with_paths(alloc, steps, fresh, held, journal)

@@ -1,11 +1,10 @@
 -- From the end of a check, a commit or a listing to what a run decides.
-use Rattle.std.proofs.Common.{◌≡◌, ◌⊎◌, inl, inr, ⊎_elim, ℕ, true, false, List, sym, ◌∙◌, ap, subst, refl, Option, Some, None, is_some, IsTrue, Result, Err, IfErr}
+use Rattle.std.proofs.Common.{◌≡◌, inl, inr, ℕ, List, sym, ◌∙◌, ap, subst, refl, Option, Some, None, is_some, IsTrue, Result, Err, IfErr}
 use Rattle.dired_text.specs.Paths.{Names}
 use Rattle.tree_core.specs.declared.changes.Changes.{Changes}
 use Rattle.tree_core.specs.declared.changes.Changes.TheVariants.{Edits}
 use Rattle.tree_core.specs.declared.edit.Edit.{Edit}
 use Rattle.tree_core.specs.declared.faults.Faults.{Faults}
-use Rattle.tree_core.specs.declared.meta.Meta.{Meta}
 use Rattle.tree_core.specs.declared.node.CallName.{CallName}
 use Rattle.tree_core.specs.FileTree.{FileTree, IsFile, IsTree}
 use Rattle.tree_core.specs.History.{History, current_tree}
@@ -16,7 +15,7 @@ use Rattle.commit_plan.specs.Promises.{IsOldTree}
 use Rattle.commit_run.specs.declared.end.CommitEnd.{CommitEnd}
 use Rattle.commit_run.specs.declared.end.CommitEnd.TheVariants as end
 use Rattle.commit_run.specs.Commits.{Commits}
-use Rattle.commit_run.specs.Faults.{NamesFaults}
+use Rattle.commit_run.specs.Faults.{IsKept, NamesFaults}
 use Rattle.edit_words.specs.declared.counts.Counts.{Counts}
 use Rattle.edit_words.specs.declared.fault.CheckFault.{CheckFault}
 use Rattle.edit_words.specs.declared.fault.CheckFault.TheVariants as fault
@@ -34,8 +33,8 @@ use Rattle.dired_run.specs.declared.status.Status.TheVariants.{Memory, TreeFault
 use Rattle.dired_run.specs.Faults.{status_of_commit, status_of_fault}
 use Rattle.dired_run.specs.Reports.{decided_of, output_of}
 use Rattle.dired_run.specs.Runs.{Outside, Decides, IsLookFor, no_memory, look_failed, refused, committed, last_text}
-use Rattle.dired_run.specs.Statuses.{IsTreeRefusal, calls_behind, sort_of, text_of}
-use Rattle.dired_run.specs.Verdicts.{Verdict, Makes, on_tree, summary_of, summary_text, unless}
+use Rattle.dired_run.specs.Statuses.{IsKeptBehind, IsTreeRefusal, calls_behind, sort_of, text_of}
+use Rattle.dired_run.specs.Verdicts.{Makes, on_tree, summary_text, unless}
 
 -- ---- the check
 
@@ -162,6 +161,18 @@ commit_calls (end.Unclean first) old now names = names
 pub commit_answers_calls : (ended : CommitEnd) (old mid now : Faults) (decided : Status) → mid ≡ old → NamesFaults mid now ended → decided ≡ status_of_commit ended → now ≡ calls_behind (sort_of decided) old
 commit_answers_calls ended old mid now decided same names is =
     commit_calls ended old now (subst (λ f. NamesFaults f now ended) same names) ∙ ap (λ s. calls_behind (sort_of s) old) (sym is)
+
+commit_kept : (ended : CommitEnd) (old now : ℕ) → IsKept old now ended → IsKeptBehind (sort_of (status_of_commit ended)) old now
+commit_kept end.Done old now kept = tt
+commit_kept end.Memory old now kept = kept
+commit_kept (end.TreeFault first) old now kept = tt
+commit_kept (end.RolledBack first) old now kept = tt
+commit_kept (end.Unfinished first second) old now kept = tt
+commit_kept (end.Unclean first) old now kept = tt
+
+pub commit_answers_kept : (ended : CommitEnd) (old mid now : ℕ) (decided : Status) → mid ≡ old → IsKept mid now ended → decided ≡ status_of_commit ended → IsKeptBehind (sort_of decided) old now
+commit_answers_kept ended old mid now decided same kept is =
+    subst (λ s. IsKeptBehind (sort_of s) old now) (sym is) (commit_kept ended old now (subst (λ m. IsKept m now ended) same kept))
 
 -- Checked edits were committed, and this was to be written.
 pub commit_decides : (request : Request) (before now : Outside) (mid : History) (mid_faults : Faults) (changes : Changes) (counts : Counts) (flagged : List Names) (summary : List ℕ) (ended : CommitEnd) (decided : Status) (text : List ℕ)

@@ -1,5 +1,5 @@
 -- What is well formed is done, unless a call of the outside fails or memory runs out.
-use Rattle.std.proofs.Common.{◌≡◌, ◌⊎◌, inl, inr, ⊎_elim, ℕ, ◌≤◌, Bool, true, false, List, length, sym, ◌∙◌, ap, arith, Option, Some, None, Ok, Err, nat_lt}
+use Rattle.std.proofs.Common.{◌≡◌, ◌⊎◌, inl, inr, ⊎_elim, ℕ, ◌≤◌, Bool, false, List, length, sym, ◌∙◌, ap, arith, Some, Ok, Err, nat_lt}
 use Rattle.std.proofs.lemmas.Bool.{cond-false, le-ltb}
 use Rattle.dired_text.specs.Counts.{raised, Stayed}
 use Rattle.tree_core.specs.declared.changes.Changes.TheVariants.{Edits}

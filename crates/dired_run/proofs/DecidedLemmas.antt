@@ -24,7 +24,7 @@ use Rattle.dired_run.specs.Verdicts.{Verdict}
 
 -- ---- what was changed
 
-kept_same : (s : Sort) (old new : History) → new ≡ old → IsKeptBehind s old new
+pub kept_same : {A : Type 0} (s : Sort) (old new : A) → new ≡ old → IsKeptBehind s old new
 kept_same Success old new same = tt
 kept_same (Refusal fixed) old new same = same
 kept_same Encounter old new same = tt
@@ -110,24 +110,25 @@ tree_last (Err status) last is = go (sort_of status) is
     go (Writing held) no_way = absurd no_way
 
 pub tree_decided : (TreeTells InputsTell : Type 0) (v : Verdict) (before now : Outside) (ended : Result Output Status) → IfErr ended IsTreeRefusal
-    → now.tree_faults ≡ calls_behind (sort_of (decided_of ended)) before.tree_faults → now.read_faults ≡ before.read_faults
+    → now.tree_faults ≡ calls_behind (sort_of (decided_of ended)) before.tree_faults → IsKeptBehind (sort_of (decided_of ended)) before.changes now.changes → now.read_faults ≡ before.read_faults
     → (TreeTells → Decides v before now (decided_of ended) (output_of ended)) → IsDecided TreeTells InputsTell before now (decided_of ended) (output_of ended)
-tree_decided TreeTells InputsTell v before now ended is calls reads decides = record {
+tree_decided TreeTells InputsTell v before now ended is calls unchanged reads decides = record {
   decision = tree_decision ended is;
   said = said_of ended;
   calls = calls;
   reads = tree_reads ended before.read_faults now.read_faults is reads;
   last_read = λ tells. tree_last ended now.last_read is;
+  unchanged = unchanged;
   kept = λ tells. kept_by v before now (decided_of ended) (output_of ended) (decides tells);
 }
 
 -- ---- the words and the inputs are refused
 
 pub usage_decided : (TreeTells InputsTell : Type 0) (before : Outside) → IsDecided TreeTells InputsTell before before Usage (text_of Usage)
-usage_decided TreeTells InputsTell before = record { decision = tt; said = inr refl; calls = refl; reads = refl; last_read = λ tells. tt; kept = λ tells. refl }
+usage_decided TreeTells InputsTell before = record { decision = tt; said = inr refl; calls = refl; reads = refl; last_read = λ tells. tt; unchanged = refl; kept = λ tells. refl }
 
 pub memory_decided : (TreeTells InputsTell : Type 0) (before : Outside) → IsDecided TreeTells InputsTell before before Memory (text_of Memory)
-memory_decided TreeTells InputsTell before = record { decision = tt; said = inr refl; calls = refl; reads = inl refl; last_read = λ tells. tt; kept = λ tells. refl }
+memory_decided TreeTells InputsTell before = record { decision = tt; said = inr refl; calls = refl; reads = inl refl; last_read = λ tells. tt; unchanged = refl; kept = λ tells. refl }
 
 module _ (status : Status) (old new : ℕ) (count : ByCause status (new ≡ old) (λ _. ⊥) (λ failed. new ≡ raised old) (new ≡ old)) where
   inputs_calls : (f : Faults) → f ≡ calls_behind (sort_of status) f
@@ -175,16 +176,17 @@ refusal_decision (Reading name) is = tt
 refusal_decision (Calls calls) is = tt
 refusal_decision (Writing held) no_way = absurd no_way
 
-pub inputs_decided : (TreeTells InputsTell : Type 0) (asked : Result Request Status) (before now : Outside) (status : Status) → IsRefusal status → IsSameTree before now
+pub inputs_decided : (TreeTells InputsTell : Type 0) (asked : Result Request Status) (before now : Outside) (status : Status) → IsRefusal status → IsSameTree before now → now.changes ≡ before.changes
     → (InputsTell → ByCause status (Unit {0}) (λ _. ⊥) (λ failed. now.last_read ≡ Some failed) (asked ≡ Err status))
     → ByCause status (now.read_faults ≡ before.read_faults) (λ _. ⊥) (λ failed. now.read_faults ≡ raised before.read_faults) (now.read_faults ≡ before.read_faults)
     → IsDecided TreeTells InputsTell before now status (text_of status)
-inputs_decided TreeTells InputsTell asked before now status is same cause count = record {
+inputs_decided TreeTells InputsTell asked before now status is same unchanged cause count = record {
   decision = refusal_decision (sort_of status) is;
   said = inr refl;
   calls = same.faults ∙ inputs_calls status before.read_faults now.read_faults count before.tree_faults;
   reads = inputs_reads status before.read_faults now.read_faults count;
   last_read = λ tells. inputs_last asked status now.last_read (cause tells);
+  unchanged = kept_same (sort_of status) before.changes now.changes unchanged;
   kept = λ tells. kept_same (sort_of status) before.history now.history same.history;
 }
 
@@ -192,14 +194,14 @@ inputs_decided TreeTells InputsTell asked before now status is same cause count 
 
 pub short_decided : (TreeTells InputsTell : Type 0) (before now : Outside) (decided : Status) (text : List ℕ) → has_fixed_text decided ≡ false
     → IsDecided TreeTells InputsTell before now decided text → IsDecided TreeTells InputsTell before now Memory (text_of Memory)
-short_decided TreeTells InputsTell before now decided text made is = go (sort_of decided) made is.calls is.reads is.kept
+short_decided TreeTells InputsTell before now decided text made is = go (sort_of decided) made is.calls is.reads is.unchanged is.kept
   where
     go : (s : Sort) → has_fixed_text_of s ≡ false → now.tree_faults ≡ calls_behind s before.tree_faults → ReadsBehind s before.read_faults now.read_faults
-        → (TreeTells → IsKeptBehind s before.history now.history) → IsDecided TreeTells InputsTell before now Memory (text_of Memory)
-    go Success made calls reads kept = absurd (let wrong : true ≡ false = made in cc)
-    go (Refusal fixed) made calls reads kept = record { decision = tt; said = inr refl; calls = calls; reads = inl reads; last_read = λ tells. tt; kept = kept }
-    go Encounter made calls reads kept = absurd (let wrong : true ≡ false = made in cc)
-    go Shortage made calls reads kept = absurd (let wrong : true ≡ false = made in cc)
-    go (Reading name) made calls reads kept = record { decision = tt; said = inr refl; calls = calls; reads = inr reads; last_read = λ tells. tt; kept = kept }
-    go (Calls calls) made faults reads kept = absurd (let wrong : true ≡ false = made in cc)
-    go (Writing held) made calls reads kept = absurd (let wrong : true ≡ false = made in cc)
+        → IsKeptBehind s before.changes now.changes → (TreeTells → IsKeptBehind s before.history now.history) → IsDecided TreeTells InputsTell before now Memory (text_of Memory)
+    go Success made calls reads unchanged kept = absurd (let wrong : true ≡ false = made in cc)
+    go (Refusal fixed) made calls reads unchanged kept = record { decision = tt; said = inr refl; calls = calls; reads = inl reads; last_read = λ tells. tt; unchanged = unchanged; kept = kept }
+    go Encounter made calls reads unchanged kept = absurd (let wrong : true ≡ false = made in cc)
+    go Shortage made calls reads unchanged kept = absurd (let wrong : true ≡ false = made in cc)
+    go (Reading name) made calls reads unchanged kept = record { decision = tt; said = inr refl; calls = calls; reads = inr reads; last_read = λ tells. tt; unchanged = unchanged; kept = kept }
+    go (Calls calls) made faults reads unchanged kept = absurd (let wrong : true ≡ false = made in cc)
+    go (Writing held) made calls reads unchanged kept = absurd (let wrong : true ≡ false = made in cc)

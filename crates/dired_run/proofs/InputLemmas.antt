@@ -1,9 +1,8 @@
 -- From what was read to what a run decides.
-use Rattle.std.proofs.Common.{◌≡◌, ◌⊎◌, inl, inr, ℕ, Bool, List, refl, sym, ◌∙◌, ap, subst, Option, Some, Result, Ok, Err}
+use Rattle.std.proofs.Common.{◌≡◌, inl, inr, ℕ, Bool, List, refl, sym, ◌∙◌, ap, subst, Some, Result, Ok, Err}
 use Rattle.dired_text.specs.Answers.{IsOrMemory}
 use Rattle.dired_text.specs.Counts.{raised}
 use Rattle.dired_text.specs.Paths.{Names}
-use Rattle.tree_core.specs.FileTree.{FileTree}
 use Rattle.tree_core.specs.History.{current_tree}
 use Rattle.command_words.specs.declared.command.Command.{Command}
 use Rattle.command_words.specs.declared.command.Command.TheVariants as command
@@ -19,7 +18,7 @@ use Rattle.dired_run.specs.Inputs.{Files}
 use Rattle.dired_run.specs.Requests.{request_of}
 use Rattle.dired_run.specs.Runs.{Outside, Decides, IsSameTree, no_memory, read_failed, refused, of_command, of_request, verdict}
 use Rattle.dired_run.specs.Statuses.{ByCause, IsRefusal, text_of}
-use Rattle.dired_run.specs.Verdicts.{Verdict, Recovers, on_dirs, on_tree}
+use Rattle.dired_run.specs.Verdicts.{Recovers, on_dirs, on_tree}
 
 -- ---- the words
 

@@ -1,17 +1,14 @@
 -- Behind a commit that was done each path stands at its new place, but for the confirmed victims.
-use Rattle.std.proofs.Common.{◌≡◌, ◌⊎◌, inl, inr, ℕ, ◌≤◌, Bool, true, false, not, ◌&&◌, ◌||◌, List, [], ◌∷◌, map, length, refl, sym, ◌∙◌, ap, subst, arith, Option, Some, None, is_some, IsTrue, Result, Ok, Err, nat_lt, if◌then◌else◌}
-use Rattle.std.specs.Prelude.{Contains}
+use Rattle.std.proofs.Common.{◌≡◌, inl, inr, ℕ, ◌≤◌, Bool, true, false, not, ◌&&◌, ◌||◌, List, [], ◌∷◌, map, length, refl, sym, ◌∙◌, ap, subst, arith, Option, Some, None, is_some, Result, Ok, Err, nat_lt, if◌then◌else◌}
 use Rattle.std.specs.FinMap.{get, find}
-use Rattle.std.specs.List.{list_any}
 use Rattle.std.proofs.lemmas.Bool.{false_from_ne_true, ltb-false}
 use Rattle.dired_text.specs.Paths.{Names, path_cmp}
-use Rattle.tree_core.specs.declared.changes.Changes.{Changes}
 use Rattle.tree_core.specs.declared.changes.Changes.TheVariants.{Edits}
 use Rattle.tree_core.specs.declared.changes.Confirmed.{Confirmed}
 use Rattle.tree_core.specs.declared.edit.Edit.{Edit}
 use Rattle.tree_core.specs.declared.node.Node.{Node}
 use Rattle.tree_core.specs.FileTree.{FileTree, IsFile, IsTree, Stands}
-use Rattle.tree_core.specs.History.{History, IsSound, current_tree, next_number}
+use Rattle.tree_core.specs.History.{IsSound, current_tree, next_number}
 use Rattle.command_words.specs.declared.command.Command.{Command}
 use Rattle.command_words.specs.declared.command.Command.TheVariants as command
 use Rattle.command_words.specs.declared.command.WordsFault.{WordsFault}
@@ -31,7 +28,7 @@ use Rattle.edit_words.specs.declared.fault.CheckFault.{CheckFault}
 use Rattle.edit_words.specs.declared.row.Row.{Row}
 use Rattle.edit_words.specs.Edited.{IsEdited, added_by, edited, with_new_mode}
 use Rattle.edit_words.specs.Place.{place}
-use Rattle.edit_words.specs.Refusals.{is_confirmed, refusal}
+use Rattle.edit_words.specs.Refusals.{refusal}
 use Rattle.edit_words.specs.Rows.{edit_row, is_at, is_kept, is_removed, is_victim, route_of, rows}
 use Rattle.edit_words.specs.Sight.{sight_of}
 use Rattle.edit_words.specs.WellFormed.{AreAsked, CanBeAsked, CanBeMade, max_changes}
@@ -48,12 +45,12 @@ use Rattle.dired_run.specs.declared.status.Status.{Status}
 use Rattle.dired_run.specs.declared.status.Status.TheVariants.{Done, Usage, Memory, ReadFault, TreeFault, WriteFault, Missing, BadBuffer, Faulty, Unconfirmed, Stale, Pending, RolledBack, Unfinished, Unclean, BadJournal, Foreign, TooLarge, Strange}
 use Rattle.dired_run.specs.Faults.{status_of_commit, status_of_fault}
 use Rattle.dired_run.specs.Inputs.{Files, input_of}
-use Rattle.dired_run.specs.Kept.{IsConfirmedVictim, IsDoneOrHeld, IsPreserved, KeepsUnconfirmed, requested_by, requested_in, rows_of, taken_of}
+use Rattle.dired_run.specs.Kept.{IsConfirmedVictim, IsDoneOrHeld, KeepsUnconfirmed, requested_by, requested_in, rows_of, taken_of}
 use Rattle.dired_run.specs.Reports.{Said}
 use Rattle.dired_run.specs.Requests.{Asked, of_asks, of_buffer, of_edits, of_inputs, request_of}
 use Rattle.dired_run.specs.Runs.{Outside, Decides, no_memory, read_failed, look_failed, refused, listed, committed, recovered, of_command, of_request, verdict}
 use Rattle.dired_run.specs.Statuses.{IsDecisionOf, IsTreeRefusal, number_of, sort_of}
-use Rattle.dired_run.specs.Verdicts.{Verdict, Refuses, Makes, Lists, Recovers, on_tree, unless}
+use Rattle.dired_run.specs.Verdicts.{Refuses, Makes, on_tree, unless}
 use Rattle.dired_run.proofs.CarryLemmas.{check_refuses}
 
 -- ---- what is asked for is lawful

@@ -55,21 +55,24 @@ abbrev pub verdict : List (List ℕ) → Files → FileTree → Verdict
 verdict words files t = of_command (command_of words) files t
 
 -- What is known of the outside at the start and at the end of a run: the history of the tree, the fields that it shows, its
--- failed calls and the tree that the last one found, how many reads failed and the name of the last.
+-- failed calls, the count of its changing calls and the tree that the last failed one found, how many reads failed and the name of
+-- the last.
 pub record Outside : Type 0 where
   pub history : History
   pub fields : Names → Meta
   pub tree_faults : Faults
+  pub changes : ℕ
   pub found : FileTree
   pub read_faults : ℕ
   pub last_read : Option (List ℕ)
 
-abbrev pub outside : History → (Names → Meta) → Faults → FileTree → ℕ → Option (List ℕ) → Outside
-outside history fields tree_faults found read_faults last_read =
+abbrev pub outside : History → (Names → Meta) → Faults → ℕ → FileTree → ℕ → Option (List ℕ) → Outside
+outside history fields tree_faults changes found read_faults last_read =
     record {
       history = history;
       fields = fields;
       tree_faults = tree_faults;
+      changes = changes;
       found = found;
       read_faults = read_faults;
       last_read = last_read;
@@ -86,13 +89,15 @@ last_text Done output = output
 last_text status output = text_of status
 
 -- What holds of a status that a run decided and of what it then writes last, whatever the tree and the inputs tell: it is none of a
--- failed write, its text is its own, and it tells what failed. Where the tree tells, nothing was changed behind a refusal.
+-- failed write, its text is its own, it tells what failed, and no changing call was made behind a refusal. Where the tree tells, its
+-- history shows that.
 pub record IsDecided (TreeTells InputsTell : Type 0) (before now : Outside) (decided : Status) (text : List ℕ) : Type 0 where
   pub decision : IsDecisionOf (sort_of decided)
   pub said : (decided ≡ Done) ⊎ (text ≡ text_of decided)
   pub calls : now.tree_faults ≡ calls_behind (sort_of decided) before.tree_faults
   pub reads : ReadsBehind (sort_of decided) before.read_faults now.read_faults
   pub last_read : InputsTell → LastReadBehind (sort_of decided) now.last_read
+  pub unchanged : IsKeptBehind (sort_of decided) before.changes now.changes
   pub kept : TreeTells → IsKeptBehind (sort_of decided) before.history now.history
 
 -- the check of edits that can be made only looks at the tree

@@ -7,7 +7,6 @@ use Rattle.tree_core.specs.declared.faults.Faults.{Faults}
 use Rattle.tree_core.specs.declared.node.CallName.{CallName}
 use Rattle.tree_core.specs.declared.node.CallName.TheVariants.{Kind, Mode, IsEmpty, Meta, Names, Read, MakeDir, MakeLink, MakeHard, WriteFile, Rename, SetMode, Remove, RemoveDir, Sync}
 use Rattle.tree_core.specs.Faults.{with_fault}
-use Rattle.tree_core.specs.History.{History}
 use Rattle.dired_run.specs.declared.status.Counted.{Counted}
 use Rattle.listing_text.specs.declared.faults.Field.{Field}
 use Rattle.listing_text.specs.declared.faults.Field.TheVariants as field
@@ -278,8 +277,8 @@ LastReadBehind (Reading name) last = last ≡ Some name
 LastReadBehind (Calls calls) last = Unit {0}
 LastReadBehind (Writing held) last = Unit {0}
 
--- no changing call was done behind a refusal, want of memory or a failed read
-abbrev pub IsKeptBehind : Sort → History → History → Type 0
+-- no changing call was done behind a refusal, want of memory or a failed read: what is told before and behind is the same
+abbrev pub IsKeptBehind : {A : Type 0} → Sort → A → A → Type 0
 IsKeptBehind Success old new = Unit {0}
 IsKeptBehind (Refusal fixed) old new = new ≡ old
 IsKeptBehind Encounter old new = Unit {0}

@@ -7,7 +7,7 @@ ghost use Rattle.edit_words.specs.WellFormed.{AreAsked};
 ghost use Rattle.dired_run.specs.Faults.{status_of_commit};
 ghost use Rattle.dired_run.specs.Reports.{decided_of, output_of};
 ghost use Rattle.dired_run.specs.Runs.{Decides, outside, last_text};
-ghost use Rattle.dired_run.specs.Statuses.{IsTreeRefusal, calls_behind, sort_of};
+ghost use Rattle.dired_run.specs.Statuses.{IsKeptBehind, IsTreeRefusal, calls_behind, sort_of};
 ghost use Rattle.dired_run.specs.Verdicts.{on_tree, flagged_text, counts_text, summary_text};
 
 use crate::output::Output;
@@ -32,13 +32,15 @@ pub fn carry_out<T: Tree>(alloc: Global, tree: &mut T, request: Request) -> Resu
     ensures decides { T.Tells →
         (reads reads_now : ℕ) (last last_now : Option (List ℕ)) → reads_now ≡ reads →
         let before = outside (T.history tree.old) (T.fields tree.old) (T.faults tree.old)
-        (T.before_failed tree.old) reads last in
+        (T.changes tree.old) (T.before_failed tree.old) reads last in
         let now = outside (T.history tree.new) (T.fields tree.new) (T.faults tree.new)
-        (T.before_failed tree.new) reads_now last_now in
+        (T.changes tree.new) (T.before_failed tree.new) reads_now last_now in
         Decides (on_tree request (current_tree (T.history tree.old))) before now
         (decided_of result) (output_of result) }
     ensures calls { T.faults tree.new ≡
         calls_behind (sort_of (decided_of result)) (T.faults tree.old) }
+    ensures kept { IsKeptBehind (sort_of (decided_of result))
+        (T.changes tree.old) (T.changes tree.new) }
     ensures end { IfErr result IsTreeRefusal }
 {
     let Request {

@@ -43,13 +43,16 @@ pub fn run<T: Tree, H: Shelf, P: Patterns, S: Shell, W: Sink>(
     // Nothing is pending when the run begins.
     requires durable { T.Tells → IsDurable (T.history tree.old) }
 
-    // A status is decided by the verdict, by the first failed call or by want of memory, and then its text is written.
+    // A status is decided by the verdict, by the first failed call or by want of memory, and then its text is written. Of every
+    // tree, a real one too: no changing call was made behind a refusal.
     ensures outcome { let old = current_tree (T.history tree.old) in
         let v = verdict (map string_bytes words.now) (H.files shelf.old) old in
         let before = outside (T.history tree.old) (T.fields tree.old) (T.faults tree.old)
-        (T.before_failed tree.old) (H.faults shelf.old) (H.last_failed shelf.old) in
+        (T.changes tree.old) (T.before_failed tree.old)
+        (H.faults shelf.old) (H.last_failed shelf.old) in
         let now = outside (T.history tree.new) (T.fields tree.new) (T.faults tree.new)
-        (T.before_failed tree.new) (H.faults shelf.new) (H.last_failed shelf.new) in
+        (T.changes tree.new) (T.before_failed tree.new)
+        (H.faults shelf.new) (H.last_failed shelf.new) in
         (decided : Status) × (text : List ℕ) × (IsDecided T.Tells H.Tells before now decided text
         × ((T.Tells → H.Tells → Decides v before now decided text)
         × Said W.Tells decided text
@@ -95,15 +98,19 @@ fn decide<T: Tree, H: Shelf>(
         let old = current_tree (T.history tree.old) in
         let v = verdict (map string_bytes words.now) (H.files shelf.old) old in
         let before = outside (T.history tree.old) (T.fields tree.old) (T.faults tree.old)
-        (T.before_failed tree.old) (H.faults shelf.old) (H.last_failed shelf.old) in
+        (T.changes tree.old) (T.before_failed tree.old)
+        (H.faults shelf.old) (H.last_failed shelf.old) in
         let now = outside (T.history tree.new) (T.fields tree.new) (T.faults tree.new)
-        (T.before_failed tree.new) (H.faults shelf.new) (H.last_failed shelf.new) in
+        (T.changes tree.new) (T.before_failed tree.new)
+        (H.faults shelf.new) (H.last_failed shelf.new) in
         Decides v before now (decided_of result) (output_of result) }
     ensures decided { let before = outside
         (T.history tree.old) (T.fields tree.old) (T.faults tree.old)
-        (T.before_failed tree.old) (H.faults shelf.old) (H.last_failed shelf.old) in
+        (T.changes tree.old) (T.before_failed tree.old)
+        (H.faults shelf.old) (H.last_failed shelf.old) in
         let now = outside (T.history tree.new) (T.fields tree.new) (T.faults tree.new)
-        (T.before_failed tree.new) (H.faults shelf.new) (H.last_failed shelf.new) in
+        (T.changes tree.new) (T.before_failed tree.new)
+        (H.faults shelf.new) (H.last_failed shelf.new) in
         IsDecided T.Tells H.Tells before now (decided_of result) (output_of result) }
 {
     match read_words(alloc, words) {
@@ -143,15 +150,19 @@ fn commit_buffers<T: Tree, H: Shelf>(
         let old = current_tree (T.history tree.old) in
         let request = request_of (H.files shelf.old) before.now after.now confirmed in
         let start = outside (T.history tree.old) (T.fields tree.old) (T.faults tree.old)
-        (T.before_failed tree.old) (H.faults shelf.old) (H.last_failed shelf.old) in
+        (T.changes tree.old) (T.before_failed tree.old)
+        (H.faults shelf.old) (H.last_failed shelf.old) in
         let now = outside (T.history tree.new) (T.fields tree.new) (T.faults tree.new)
-        (T.before_failed tree.new) (H.faults shelf.new) (H.last_failed shelf.new) in
+        (T.changes tree.new) (T.before_failed tree.new)
+        (H.faults shelf.new) (H.last_failed shelf.new) in
         Decides (of_request request old) start now (decided_of result) (output_of result) }
     ensures decided { let start = outside
         (T.history tree.old) (T.fields tree.old) (T.faults tree.old)
-        (T.before_failed tree.old) (H.faults shelf.old) (H.last_failed shelf.old) in
+        (T.changes tree.old) (T.before_failed tree.old)
+        (H.faults shelf.old) (H.last_failed shelf.old) in
         let now = outside (T.history tree.new) (T.fields tree.new) (T.faults tree.new)
-        (T.before_failed tree.new) (H.faults shelf.new) (H.last_failed shelf.new) in
+        (T.changes tree.new) (T.before_failed tree.new)
+        (H.faults shelf.new) (H.last_failed shelf.new) in
         IsDecided T.Tells H.Tells start now (decided_of result) (output_of result) }
 {
     match asked_for(alloc, before, after, confirmed, shelf) {

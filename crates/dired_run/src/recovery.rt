@@ -2,7 +2,7 @@
 ghost use Rattle.std.specs.Prelude.{◌≡◌, ℕ, List, Option, IfErr};
 ghost use Rattle.dired_run.specs.Reports.{decided_of, output_of};
 ghost use Rattle.dired_run.specs.Runs.{Decides, outside};
-ghost use Rattle.dired_run.specs.Statuses.{IsTreeRefusal, calls_behind, sort_of};
+ghost use Rattle.dired_run.specs.Statuses.{IsKeptBehind, IsTreeRefusal, calls_behind, sort_of};
 ghost use Rattle.dired_run.specs.Verdicts.{Recovers};
 
 use crate::Status;
@@ -21,12 +21,14 @@ pub fn recover_tree<T: Tree>(alloc: Global, tree: &mut T, back: bool) -> Result<
     ensures decides { T.Tells →
         (reads reads_now : ℕ) (last last_now : Option (List ℕ)) → reads_now ≡ reads →
         let before = outside (T.history tree.old) (T.fields tree.old) (T.faults tree.old)
-        (T.before_failed tree.old) reads last in
+        (T.changes tree.old) (T.before_failed tree.old) reads last in
         let now = outside (T.history tree.new) (T.fields tree.new) (T.faults tree.new)
-        (T.before_failed tree.new) reads_now last_now in
+        (T.changes tree.new) (T.before_failed tree.new) reads_now last_now in
         Decides (Recovers back) before now (decided_of result) (output_of result) }
     ensures calls { T.faults tree.new ≡
         calls_behind (sort_of (decided_of result)) (T.faults tree.old) }
+    ensures kept { IsKeptBehind (sort_of (decided_of result))
+        (T.changes tree.old) (T.changes tree.new) }
     ensures end { IfErr result IsTreeRefusal }
 {
     match recover(alloc, tree, back) {

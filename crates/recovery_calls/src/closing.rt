@@ -33,11 +33,15 @@ pub fn close<T: Tree>(
     journal: &Path,
     directory: &Path,
 ) -> Result<(), CallName>
-    requires can { T.Tells → CanAll (closed_calls items.now journal.now directory.now) (T.history tree.old) }
+    requires can { T.Tells → CanAll (closed_calls items.now journal.now directory.now)
+        (T.history tree.old) }
     ensures ran { T.Tells → Ran (closed_calls items.now journal.now directory.now)
-        (T.history tree.old) (T.history tree.new) (T.before_failed tree.old) (T.before_failed tree.new) result }
-    ensures course { T.Tells → (name : List ℕ) (xs : Items) → AreThose xs name items.now journal.now directory.now → Ran (closing name xs).calls
-        (T.history tree.old) (T.history tree.new) (T.before_failed tree.old) (T.before_failed tree.new) result }
+        (T.history tree.old) (T.history tree.new)
+        (T.before_failed tree.old) (T.before_failed tree.new) result }
+    ensures course { T.Tells → (name : List ℕ) (xs : Items) →
+        AreThose xs name items.now journal.now directory.now → Ran (closing name xs).calls
+        (T.history tree.old) (T.history tree.new)
+        (T.before_failed tree.old) (T.before_failed tree.new) result }
     ensures cause { NamesFault (T.faults tree.old) (T.faults tree.new) result }
 {
     remove_items(tree, items)?;
@@ -48,7 +52,8 @@ pub fn close<T: Tree>(
 fn remove_last<T: Tree>(tree: &mut T, journal: &Path, directory: &Path) -> Result<(), CallName>
     requires can { T.Tells → CanAll (last_calls journal.now directory.now) (T.history tree.old) }
     ensures ran { T.Tells → Ran (last_calls journal.now directory.now)
-        (T.history tree.old) (T.history tree.new) (T.before_failed tree.old) (T.before_failed tree.new) result }
+        (T.history tree.old) (T.history tree.new)
+        (T.before_failed tree.old) (T.before_failed tree.new) result }
     ensures cause { NamesFault (T.faults tree.old) (T.faults tree.new) result }
 {
     sync(tree)?;
@@ -61,7 +66,8 @@ fn remove_last<T: Tree>(tree: &mut T, journal: &Path, directory: &Path) -> Resul
 fn remove_items<T: Tree>(tree: &mut T, items: &[Item]) -> Result<(), CallName>
     requires can { T.Tells → CanAll (item_calls items.now) (T.history tree.old) }
     ensures ran { T.Tells → Ran (item_calls items.now)
-        (T.history tree.old) (T.history tree.new) (T.before_failed tree.old) (T.before_failed tree.new) result }
+        (T.history tree.old) (T.history tree.new)
+        (T.before_failed tree.old) (T.before_failed tree.new) result }
     ensures cause { NamesFault (T.faults tree.old) (T.faults tree.new) result }
 {
     for item in items {
@@ -71,9 +77,11 @@ fn remove_items<T: Tree>(tree: &mut T, items: &[Item]) -> Result<(), CallName>
 }
 
 fn remove_item<T: Tree>(tree: &mut T, item: &Item) -> Result<(), CallName>
-    requires can { T.Tells → CanDo (removal_by item.now.is_dir item.now.path) (current_tree (T.history tree.old)) }
+    requires can { T.Tells → CanDo (removal_by item.now.is_dir item.now.path)
+        (current_tree (T.history tree.old)) }
     ensures ran { T.Tells → Ran (removal_by item.now.is_dir item.now.path ∷ [])
-        (T.history tree.old) (T.history tree.new) (T.before_failed tree.old) (T.before_failed tree.new) result }
+        (T.history tree.old) (T.history tree.new)
+        (T.before_failed tree.old) (T.before_failed tree.new) result }
     ensures cause { NamesFault (T.faults tree.old) (T.faults tree.new) result }
 {
     if item.is_dir {
@@ -89,11 +97,15 @@ fn remove_item<T: Tree>(tree: &mut T, item: &Item) -> Result<(), CallName>
 /// # Errors
 /// The call of this name failed. The calls before it were done.
 pub fn clear<T: Tree>(tree: &mut T, entries: &[Path], directory: &Path) -> Result<(), CallName>
-    requires can { T.Tells → CanAll (unstaging_calls entries.now directory.now) (T.history tree.old) }
+    requires can { T.Tells → CanAll (unstaging_calls entries.now directory.now)
+        (T.history tree.old) }
     ensures ran { T.Tells → Ran (unstaging_calls entries.now directory.now)
-        (T.history tree.old) (T.history tree.new) (T.before_failed tree.old) (T.before_failed tree.new) result }
-    ensures course { T.Tells → (names : List (List ℕ)) → AreStaged names entries.now directory.now → Ran (clearing names).calls
-        (T.history tree.old) (T.history tree.new) (T.before_failed tree.old) (T.before_failed tree.new) result }
+        (T.history tree.old) (T.history tree.new)
+        (T.before_failed tree.old) (T.before_failed tree.new) result }
+    ensures course { T.Tells → (names : List (List ℕ)) →
+        AreStaged names entries.now directory.now → Ran (clearing names).calls
+        (T.history tree.old) (T.history tree.new)
+        (T.before_failed tree.old) (T.before_failed tree.new) result }
     ensures cause { NamesFault (T.faults tree.old) (T.faults tree.new) result }
 {
     unstage(tree, entries, directory)

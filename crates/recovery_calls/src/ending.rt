@@ -78,9 +78,12 @@ pub(crate) fn end<T: Tree>(
 ) -> Result<Option<usize>, CallName>
     requires work { IsWork work.now }
     requires marker { marker.now ≡ staged (last_marker ending (length work.now.steps)) }
-    requires marked { T.Tells → IsMarked (last_marker ending (length work.now.steps)) work.now (T.history tree.old) }
-    ensures follows { T.Tells → Follows (ended ending (length work.now.steps) (entries_of work.now) (T.history tree.old))
-        (T.history tree.old) (T.history tree.new) (T.before_failed tree.old) (T.before_failed tree.new) result }
+    requires marked { T.Tells → IsMarked (last_marker ending (length work.now.steps)) work.now
+        (T.history tree.old) }
+    ensures follows { T.Tells → Follows (ended ending (length work.now.steps) (entries_of work.now)
+        (T.history tree.old))
+        (T.history tree.old) (T.history tree.new)
+        (T.before_failed tree.old) (T.before_failed tree.new) result }
     ensures cause { NamesFault (T.faults tree.old) (T.faults tree.new) result }
 {
     if is_barred(tree, work.entries(), ending)? {
@@ -99,10 +102,14 @@ fn end_unbarred<T: Tree>(
 ) -> Result<(), CallName>
     requires work { IsWork work.now }
     requires marker { marker.now ≡ staged (last_marker ending (length work.now.steps)) }
-    requires marked { T.Tells → IsMarked (last_marker ending (length work.now.steps)) work.now (T.history tree.old) }
-    requires may { T.Tells → AllByRecursion (MayEnd ending (current_tree (T.history tree.old))) (entries_of work.now) }
-    ensures ran { T.Tells → RanOrLooked (ended_calls ending (length work.now.steps) (entries_of work.now) (current_tree (T.history tree.old)))
-        (T.history tree.old) (T.history tree.new) (T.before_failed tree.old) (T.before_failed tree.new) result }
+    requires marked { T.Tells → IsMarked (last_marker ending (length work.now.steps)) work.now
+        (T.history tree.old) }
+    requires may { T.Tells → AllByRecursion (MayEnd ending (current_tree (T.history tree.old)))
+        (entries_of work.now) }
+    ensures ran { T.Tells → RanOrLooked (ended_calls ending (length work.now.steps)
+        (entries_of work.now) (current_tree (T.history tree.old)))
+        (T.history tree.old) (T.history tree.new)
+        (T.before_failed tree.old) (T.before_failed tree.new) result }
     ensures cause { NamesFault (T.faults tree.old) (T.faults tree.new) result }
 {
     let journal = ending.journal(&work.paths);
@@ -114,7 +121,8 @@ fn end_unbarred<T: Tree>(
 // Whether something stands that bars this end.
 fn is_barred<T: Tree>(tree: &mut T, entries: &[Entry], ending: Ending) -> Result<bool, CallName>
     requires paths { AllByRecursion HasPath entries.now }
-    ensures barred { T.Tells → IfOk result (λ barred. barred ≡ list_any (bars ending (current_tree (T.history tree.old))) (names_of entries.now)) }
+    ensures barred { T.Tells → IfOk result (λ barred. barred ≡
+        list_any (bars ending (current_tree (T.history tree.old))) (names_of entries.now)) }
     ensures looked { T.Tells → OnlyLooked (failed_in (λ call. Some call) result)
         (T.history tree.old) (T.history tree.new) (T.fields tree.old) (T.fields tree.new)
         (T.before_failed tree.old) (T.before_failed tree.new) }
@@ -131,7 +139,8 @@ fn is_barred<T: Tree>(tree: &mut T, entries: &[Entry], ending: Ending) -> Result
 // Whether this entry bars it: one that is to be removed behind it must be such as a commit leaves, and no other may stand.
 fn is_bar<T: Tree>(tree: &mut T, entry: &Entry, ending: Ending) -> Result<bool, CallName>
     requires path { HasPath entry.now }
-    ensures bars { T.Tells → IfOk result (λ bar. bar ≡ bars ending (current_tree (T.history tree.old)) entry.now.name) }
+    ensures bars { T.Tells → IfOk result (λ bar. bar ≡
+        bars ending (current_tree (T.history tree.old)) entry.now.name) }
     ensures looked { T.Tells → OnlyLooked (failed_in (λ call. Some call) result)
         (T.history tree.old) (T.history tree.new) (T.fields tree.old) (T.fields tree.new)
         (T.before_failed tree.old) (T.before_failed tree.new) }
@@ -150,7 +159,8 @@ fn is_bar<T: Tree>(tree: &mut T, entry: &Entry, ending: Ending) -> Result<bool, 
 
 // What stands at a path.
 fn kind_at<T: Tree>(tree: &mut T, path: &Path) -> Result<Option<Kind>, CallName>
-    ensures kind { T.Tells → IfOk result (λ kind. kind ≡ option_map kind_of (get (current_tree (T.history tree.old)) path.now)) }
+    ensures kind { T.Tells → IfOk result (λ kind. kind ≡
+        option_map kind_of (get (current_tree (T.history tree.old)) path.now)) }
     ensures looked { T.Tells → OnlyLooked (failed_in (λ call. Some call) result)
         (T.history tree.old) (T.history tree.new) (T.fields tree.old) (T.fields tree.new)
         (T.before_failed tree.old) (T.before_failed tree.new) }
@@ -165,7 +175,8 @@ fn kind_at<T: Tree>(tree: &mut T, path: &Path) -> Result<Option<Kind>, CallName>
 // Whether nothing stands in a directory.
 fn is_empty<T: Tree>(tree: &mut T, path: &Path) -> Result<bool, CallName>
     requires dir { T.Tells → IsDir (current_tree (T.history tree.old)) path.now }
-    ensures empty { T.Tells → IfOk result (λ empty. empty ≡ is_none_of (names_in (current_tree (T.history tree.old)) path.now)) }
+    ensures empty { T.Tells → IfOk result (λ empty. empty ≡
+        is_none_of (names_in (current_tree (T.history tree.old)) path.now)) }
     ensures looked { T.Tells → OnlyLooked (failed_in (λ call. Some call) result)
         (T.history tree.old) (T.history tree.new) (T.fields tree.old) (T.fields tree.new)
         (T.before_failed tree.old) (T.before_failed tree.new) }
@@ -181,9 +192,12 @@ fn is_empty<T: Tree>(tree: &mut T, path: &Path) -> Result<bool, CallName>
 fn remove_gone<T: Tree>(tree: &mut T, entries: &[Entry], ending: Ending) -> Result<(), CallName>
     requires paths { AllByRecursion HasPath entries.now }
     requires once { AreOnce (names_of entries.now) }
-    requires may { T.Tells → AllByRecursion (MayEnd ending (current_tree (T.history tree.old))) (names_of entries.now) }
-    ensures ran { T.Tells → RanOrLooked (removals_by (gone_in ending (current_tree (T.history tree.old)) (names_of entries.now)))
-        (T.history tree.old) (T.history tree.new) (T.before_failed tree.old) (T.before_failed tree.new) result }
+    requires may { T.Tells → AllByRecursion (MayEnd ending (current_tree (T.history tree.old)))
+        (names_of entries.now) }
+    ensures ran { T.Tells → RanOrLooked (removals_by
+        (gone_in ending (current_tree (T.history tree.old)) (names_of entries.now)))
+        (T.history tree.old) (T.history tree.new)
+        (T.before_failed tree.old) (T.before_failed tree.new) result }
     ensures cause { NamesFault (T.faults tree.old) (T.faults tree.new) result }
 {
     for entry in entries {
@@ -196,8 +210,10 @@ fn remove_gone<T: Tree>(tree: &mut T, entries: &[Entry], ending: Ending) -> Resu
 fn remove_if_gone<T: Tree>(tree: &mut T, entry: &Entry, ending: Ending) -> Result<(), CallName>
     requires path { HasPath entry.now }
     requires may { T.Tells → MayEnd ending (current_tree (T.history tree.old)) entry.now.name }
-    ensures ran { T.Tells → RanOrLooked (removals_by (gone_one ending (current_tree (T.history tree.old)) entry.now.name))
-        (T.history tree.old) (T.history tree.new) (T.before_failed tree.old) (T.before_failed tree.new) result }
+    ensures ran { T.Tells → RanOrLooked (removals_by
+        (gone_one ending (current_tree (T.history tree.old)) entry.now.name))
+        (T.history tree.old) (T.history tree.new)
+        (T.before_failed tree.old) (T.before_failed tree.new) result }
     ensures cause { NamesFault (T.faults tree.old) (T.faults tree.new) result }
 {
     if ending.removes(entry.name.role) {
@@ -210,9 +226,11 @@ fn remove_if_gone<T: Tree>(tree: &mut T, entry: &Entry, ending: Ending) -> Resul
 // Removes what stands at a path.
 fn remove_at<T: Tree>(tree: &mut T, path: &Path) -> Result<(), CallName>
     requires inside { path.now ≢ [] }
-    requires empty { T.Tells → IsDir (current_tree (T.history tree.old)) path.now → IsEmptyAt (current_tree (T.history tree.old)) path.now }
+    requires empty { T.Tells → IsDir (current_tree (T.history tree.old)) path.now →
+        IsEmptyAt (current_tree (T.history tree.old)) path.now }
     ensures ran { T.Tells → RanOrLooked (removed_at path.now (current_tree (T.history tree.old)))
-        (T.history tree.old) (T.history tree.new) (T.before_failed tree.old) (T.before_failed tree.new) result }
+        (T.history tree.old) (T.history tree.new)
+        (T.before_failed tree.old) (T.before_failed tree.new) result }
     ensures cause { NamesFault (T.faults tree.old) (T.faults tree.new) result }
 {
     match kind_at(tree, path)? {
@@ -229,9 +247,11 @@ fn close_up<T: Tree>(
     journal: &Path,
     directory: &Path,
 ) -> Result<(), CallName>
-    requires can { T.Tells → CanAll (close_up_calls marker.now journal.now directory.now) (T.history tree.old) }
+    requires can { T.Tells → CanAll (close_up_calls marker.now journal.now directory.now)
+        (T.history tree.old) }
     ensures ran { T.Tells → Ran (close_up_calls marker.now journal.now directory.now)
-        (T.history tree.old) (T.history tree.new) (T.before_failed tree.old) (T.before_failed tree.new) result }
+        (T.history tree.old) (T.history tree.new)
+        (T.before_failed tree.old) (T.before_failed tree.new) result }
     ensures cause { NamesFault (T.faults tree.old) (T.faults tree.new) result }
 {
     remove(tree, marker)?;

@@ -22,9 +22,12 @@ pub(crate) fn redo_parts<T: Tree>(
     requires work { IsWork work.now }
     requires way { LeadsForward work.now.steps way.now }
     requires marked { T.Tells → IsMarked (at_marker way.now.from) work.now (T.history tree.old) }
-    ensures follows { T.Tells → Follows (redone_parts way.now.from (parts_ahead work.now way.now) (T.history tree.old))
-        (T.history tree.old) (T.history tree.new) (T.before_failed tree.old) (T.before_failed tree.new) result }
-    ensures marked { T.Tells → IfDone result (IsMarked (at_marker (length work.now.steps)) work.now (T.history tree.new)) }
+    ensures follows { T.Tells → Follows (redone_parts way.now.from (parts_ahead work.now way.now)
+        (T.history tree.old))
+        (T.history tree.old) (T.history tree.new)
+        (T.before_failed tree.old) (T.before_failed tree.new) result }
+    ensures marked { T.Tells → IfDone result (IsMarked (at_marker (length work.now.steps)) work.now
+        (T.history tree.new)) }
     ensures cause { NamesFault (T.faults tree.old) (T.faults tree.new) result }
 {
     for k in 0..way.parts() {
@@ -46,11 +49,15 @@ fn redo_part<T: Tree>(
     requires work { IsWork work.now }
     requires way { LeadsForward work.now.steps way.now }
     requires part { k < length (parts_ahead work.now way.now) }
-    requires marked { T.Tells → IsMarked (at_marker (place_of way.now.from (parts_ahead work.now way.now) k)) work.now (T.history tree.old) }
+    requires marked { T.Tells → IsMarked (at_marker
+        (place_of way.now.from (parts_ahead work.now way.now) k)) work.now (T.history tree.old) }
     ensures follows { T.Tells →
-        Follows (redone_part (place_of way.now.from (parts_ahead work.now way.now) k) (group_at k (parts_ahead work.now way.now)) (T.history tree.old))
-        (T.history tree.old) (T.history tree.new) (T.before_failed tree.old) (T.before_failed tree.new) result }
-    ensures marked { T.Tells → IfDone result (IsMarked (at_marker (place_of way.now.from (parts_ahead work.now way.now) (k + 1))) work.now (T.history tree.new)) }
+        Follows (redone_part (place_of way.now.from (parts_ahead work.now way.now) k)
+        (group_at k (parts_ahead work.now way.now)) (T.history tree.old))
+        (T.history tree.old) (T.history tree.new)
+        (T.before_failed tree.old) (T.before_failed tree.new) result }
+    ensures marked { T.Tells → IfDone result (IsMarked (at_marker (place_of way.now.from
+        (parts_ahead work.now way.now) (k + 1))) work.now (T.history tree.new)) }
     ensures cause { NamesFault (T.faults tree.old) (T.faults tree.new) result }
 {
     let from = way.place(k);
@@ -77,9 +84,12 @@ pub(crate) fn undo_parts<T: Tree>(
     requires work { IsWork work.now }
     requires way { LeadsBack work.now.steps way.now }
     requires marked { T.Tells → IsMarked (back_marker way.now.from) work.now (T.history tree.old) }
-    ensures follows { T.Tells → Follows (undone_parts 0 (parts_left work.now way.now) (T.history tree.old))
-        (T.history tree.old) (T.history tree.new) (T.before_failed tree.old) (T.before_failed tree.new) result }
-    ensures marked { T.Tells → IfDone result (IsMarked (back_marker 0) work.now (T.history tree.new)) }
+    ensures follows { T.Tells → Follows (undone_parts 0 (parts_left work.now way.now)
+        (T.history tree.old))
+        (T.history tree.old) (T.history tree.new)
+        (T.before_failed tree.old) (T.before_failed tree.new) result }
+    ensures marked { T.Tells → IfDone result (IsMarked (back_marker 0) work.now
+        (T.history tree.new)) }
     ensures cause { NamesFault (T.faults tree.old) (T.faults tree.new) result }
 {
     for k in (0..way.parts()).rev() {
@@ -101,11 +111,15 @@ fn undo_part<T: Tree>(
     requires work { IsWork work.now }
     requires way { LeadsBack work.now.steps way.now }
     requires part { k < length (parts_left work.now way.now) }
-    requires marked { T.Tells → IsMarked (back_marker (place_of 0 (parts_left work.now way.now) (k + 1))) work.now (T.history tree.old) }
+    requires marked { T.Tells → IsMarked (back_marker
+        (place_of 0 (parts_left work.now way.now) (k + 1))) work.now (T.history tree.old) }
     ensures follows { T.Tells →
-        Follows (undone_part (place_of 0 (parts_left work.now way.now) k) (group_at k (parts_left work.now way.now)) (T.history tree.old))
-        (T.history tree.old) (T.history tree.new) (T.before_failed tree.old) (T.before_failed tree.new) result }
-    ensures marked { T.Tells → IfDone result (IsMarked (back_marker (place_of 0 (parts_left work.now way.now) k)) work.now (T.history tree.new)) }
+        Follows (undone_part (place_of 0 (parts_left work.now way.now) k)
+        (group_at k (parts_left work.now way.now)) (T.history tree.old))
+        (T.history tree.old) (T.history tree.new)
+        (T.before_failed tree.old) (T.before_failed tree.new) result }
+    ensures marked { T.Tells → IfDone result (IsMarked
+        (back_marker (place_of 0 (parts_left work.now way.now) k)) work.now (T.history tree.new)) }
     ensures cause { NamesFault (T.faults tree.old) (T.faults tree.new) result }
 {
     let from = way.place(k);

@@ -26,8 +26,10 @@ pub fn forward_from<T: Tree>(
     requires work { IsWork work.now }
     requires way { LeadsForward work.now.steps way.now }
     requires marked { T.Tells → IsMarked (at_marker way.now.from) work.now (T.history tree.old) }
-    ensures follows { T.Tells → Follows (forward_course work.now.steps way.now.from (entries_of work.now) (T.history tree.old))
-        (T.history tree.old) (T.history tree.new) (T.before_failed tree.old) (T.before_failed tree.new) result }
+    ensures follows { T.Tells → Follows (forward_course work.now.steps way.now.from
+        (entries_of work.now) (T.history tree.old))
+        (T.history tree.old) (T.history tree.new)
+        (T.before_failed tree.old) (T.before_failed tree.new) result }
     ensures cause { NamesFault (T.faults tree.old) (T.faults tree.new) result }
 {
     let strange = redo_parts(tree, work, way)?;
@@ -46,8 +48,10 @@ pub fn back_from<T: Tree>(tree: &mut T, work: &Work, way: &Way) -> Result<Option
     requires work { IsWork work.now }
     requires way { LeadsBack work.now.steps way.now }
     requires marked { T.Tells → IsMarked (back_marker way.now.from) work.now (T.history tree.old) }
-    ensures follows { T.Tells → Follows (back_course work.now.steps way.now.from (entries_of work.now) (T.history tree.old))
-        (T.history tree.old) (T.history tree.new) (T.before_failed tree.old) (T.before_failed tree.new) result }
+    ensures follows { T.Tells → Follows (back_course work.now.steps way.now.from
+        (entries_of work.now) (T.history tree.old))
+        (T.history tree.old) (T.history tree.new)
+        (T.before_failed tree.old) (T.before_failed tree.new) result }
     ensures cause { NamesFault (T.faults tree.old) (T.faults tree.new) result }
 {
     let strange = undo_parts(tree, work, way)?;
@@ -69,9 +73,12 @@ pub fn turned_back_from<T: Tree>(
 ) -> Result<Option<usize>, CallName>
     requires work { IsWork work.now }
     requires turn { IsTurn work.now.steps turn.now }
-    requires marked { T.Tells → IsMarked (at_marker turn.now.here.from) work.now (T.history tree.old) }
-    ensures follows { T.Tells → Follows (turned_course work.now.steps turn.now.here.from (entries_of work.now) (T.history tree.old))
-        (T.history tree.old) (T.history tree.new) (T.before_failed tree.old) (T.before_failed tree.new) result }
+    requires marked { T.Tells → IsMarked (at_marker turn.now.here.from) work.now
+        (T.history tree.old) }
+    ensures follows { T.Tells → Follows (turned_course work.now.steps turn.now.here.from
+        (entries_of work.now) (T.history tree.old))
+        (T.history tree.old) (T.history tree.new)
+        (T.before_failed tree.old) (T.before_failed tree.new) result }
     ensures cause { NamesFault (T.faults tree.old) (T.faults tree.new) result }
 {
     let strange = turn_back(tree, work, turn)?;

@@ -75,7 +75,8 @@ fn look_at_all<T: Tree>(
     requires steps { AllByRecursion IsStep steps.now }
     requires parents { AreParents steps.now parents.now }
     requires few { from + length steps.now < 2 ^ 64 }
-    ensures told { T.Tells → IfOk result (λ looked. looked ≡ looked_of from steps.now (current_tree (T.history tree.old))) }
+    ensures told { T.Tells → IfOk result (λ looked. looked ≡
+        looked_of from steps.now (current_tree (T.history tree.old))) }
     ensures looked { T.Tells → OnlyLooked (failed_in (λ call. Some call) result)
         (T.history tree.old) (T.history tree.new) (T.fields tree.old) (T.fields tree.new)
         (T.before_failed tree.old) (T.before_failed tree.new) }
@@ -103,10 +104,14 @@ pub(crate) fn turn_back<T: Tree>(
 ) -> Result<Option<usize>, CallName>
     requires work { IsWork work.now }
     requires turn { IsTurn work.now.steps turn.now }
-    requires marked { T.Tells → IsMarked (at_marker turn.now.here.from) work.now (T.history tree.old) }
-    ensures follows { T.Tells → Follows (turned_from work.now.steps turn.now.here.from (T.history tree.old))
-        (T.history tree.old) (T.history tree.new) (T.before_failed tree.old) (T.before_failed tree.new) result }
-    ensures marked { T.Tells → IfDone result (IsMarked (back_marker 0) work.now (T.history tree.new)) }
+    requires marked { T.Tells → IsMarked (at_marker turn.now.here.from) work.now
+        (T.history tree.old) }
+    ensures follows { T.Tells → Follows (turned_from work.now.steps turn.now.here.from
+        (T.history tree.old))
+        (T.history tree.old) (T.history tree.new)
+        (T.before_failed tree.old) (T.before_failed tree.new) result }
+    ensures marked { T.Tells → IfDone result (IsMarked (back_marker 0) work.now
+        (T.history tree.new)) }
     ensures cause { NamesFault (T.faults tree.old) (T.faults tree.new) result }
 {
     let from = turn.here.from;
@@ -132,9 +137,12 @@ fn turn_to<T: Tree>(
     requires small { way.now.from < 2 ^ 64 }
     requires marker { marker.now ≡ staged (at_marker from) }
     requires marked { T.Tells → IsMarked (at_marker from) work.now (T.history tree.old) }
-    ensures follows { T.Tells → Follows (turned_at work.now.steps from way.now.from (T.history tree.old))
-        (T.history tree.old) (T.history tree.new) (T.before_failed tree.old) (T.before_failed tree.new) result }
-    ensures marked { T.Tells → IfDone result (IsMarked (back_marker 0) work.now (T.history tree.new)) }
+    ensures follows { T.Tells → Follows (turned_at work.now.steps from way.now.from
+        (T.history tree.old))
+        (T.history tree.old) (T.history tree.new)
+        (T.before_failed tree.old) (T.before_failed tree.new) result }
+    ensures marked { T.Tells → IfDone result (IsMarked (back_marker 0) work.now
+        (T.history tree.new)) }
     ensures cause { NamesFault (T.faults tree.old) (T.faults tree.new) result }
 {
     rename_and_sync(tree, marker, way.marker(way.parts()))?;

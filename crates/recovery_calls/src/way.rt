@@ -106,7 +106,8 @@ fn places_behind(alloc: Global, ends: &[usize], from: usize) -> Result<Vec<usize
 
 // The first place, the ends before this one, and this one.
 fn places_before(alloc: Global, ends: &[usize], from: usize) -> Result<Vec<usize>, Memory>
-    ensures { IfOk result (λ v. v.items ≡ 0 ∷ (if from == 0 then [] else filter (λ end. nat_lt end from) ends.now ++ from ∷ [])) }
+    ensures { IfOk result (λ v. v.items ≡ 0 ∷
+        (if from == 0 then [] else filter (λ end. nat_lt end from) ends.now ++ from ∷ [])) }
 {
     let mut places = Vec::new(alloc);
     places.push(0)?;

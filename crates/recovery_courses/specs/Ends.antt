@@ -1,12 +1,12 @@
 -- Recovery behind the steps and without them. `es` are the names of the entries that were read in the staging directory or that a
 -- step names, each once.
-use Rattle.std.specs.Prelude.{ℕ, ◌+◌, Bool, true, false, not, ◌&&◌, List, [], ◌∷◌, ◌++◌, length, Some, None, is_some, if◌then◌else◌}
+use Rattle.std.specs.Prelude.{ℕ, ◌+◌, Bool, false, not, ◌&&◌, List, [], ◌∷◌, ◌++◌, length, is_some, if◌then◌else◌}
 use Rattle.std.specs.FinMap.{get}
 use Rattle.std.specs.List.{list_any}
 use Rattle.commit_states.specs.declared.held.Held.{Held}
 use Rattle.commit_states.specs.Calls.{Items, seal_calls, cleaning_calls, revoke_calls, removals_of, last_of, close_calls, unstage_calls}
 use Rattle.commit_steps.specs.declared.step.Step.{Step}
-use Rattle.commit_steps.specs.Staging.{staging, staged, sealed, undone, back_marker}
+use Rattle.commit_steps.specs.Staging.{staged, undone, back_marker}
 use Rattle.recovery_courses.specs.Course.{Course, these, strange_at, and_then}
 use Rattle.recovery_courses.specs.Parts.{parts_behind, redone_parts, turned_from, undone_from}
 use Rattle.staging_names.specs.declared.entry_name.EntryName.{EntryName}

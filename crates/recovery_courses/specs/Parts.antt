@@ -1,10 +1,10 @@
 -- Recovery among the steps. A part is a group, or what lies between a marker within a group and the next cut or the last one.
-use Rattle.std.specs.Prelude.{◌≡◌, ℕ, ◌+◌, ◌-◌, ◌==◌, nat_lt, List, [], ◌∷◌, length, reverse, Option, Some, None, if◌then◌else◌}
+use Rattle.std.specs.Prelude.{ℕ, ◌+◌, ◌-◌, ◌==◌, nat_lt, List, [], ◌∷◌, length, reverse, if◌then◌else◌}
 use Rattle.commit_calls.specs.Parts.{synced_rename_calls}
 use Rattle.commit_states.specs.Calls.{do_calls, undo_calls, turn_calls}
 use Rattle.commit_steps.specs.declared.step.Step.{Step}
 use Rattle.commit_steps.specs.Staging.{staged, at_marker, back_marker}
-use Rattle.recovery_courses.specs.Course.{Course, these, strange_at, going_on, and_then}
+use Rattle.recovery_courses.specs.Course.{Course, these, going_on, and_then}
 use Rattle.step_looks.specs.Redoing.{to_redo, strange_redo}
 use Rattle.step_looks.specs.Strictly.{to_undo_strictly, strange_back, strange_look}
 use Rattle.step_looks.specs.Undoing.{any_goes_back}

@@ -1,5 +1,5 @@
 // What stands under names in the staging directory.
-ghost use Rattle.std.specs.Prelude.{◌≡◌, IfErr, IfOk, false, map, length};
+ghost use Rattle.std.specs.Prelude.{◌≡◌, IfErr, IfOk, false, map};
 ghost use Rattle.std.specs.FinMap.{get};
 ghost use Rattle.std.specs.Option.{option_map};
 ghost use Rattle.commit_steps.specs.Staging.{staged};
@@ -12,7 +12,7 @@ ghost use Rattle.recovery_start.specs.Start.{failed_start, found_at, has_none, i
 
 use crate::StartEnd;
 use dired_text::{Failed, Name, Path};
-use staging_names::{EntryName, Found, Role, StagedName, read_name};
+use staging_names::{Found, Role, StagedName, read_name};
 use std::alloc::Global;
 use tree_core::{CallName, Kind, LookEnd, Tree};
 
@@ -24,12 +24,14 @@ pub(crate) fn find<T: Tree>(
     paths: &[Path],
 ) -> Result<Vec<Found>, StartEnd>
     requires paths { paths.now ≡ map staged names.now }
-    ensures found { T.Tells → IfOk result (λ v. v.items ≡ map (found_at (current_tree (T.history tree.old))) names.now) }
+    ensures found { T.Tells → IfOk result (λ v. v.items ≡
+        map (found_at (current_tree (T.history tree.old))) names.now) }
     ensures names { IfOk result (λ v. map name_found v.items ≡ map name_read names.now) }
     ensures looked { T.Tells → OnlyLooked (failed_in failed_start result)
         (T.history tree.old) (T.history tree.new) (T.fields tree.old) (T.fields tree.new)
         (T.before_failed tree.old) (T.before_failed tree.new) }
-    ensures faults { T.faults tree.new ≡ faults_with (failed_in failed_start result) (T.faults tree.old) }
+    ensures faults { T.faults tree.new ≡ faults_with (failed_in failed_start result)
+        (T.faults tree.old) }
     ensures unchanged { T.changes tree.new ≡ T.changes tree.old }
     ensures untold { IfErr result (λ e. is_told e ≡ false) }
 {
@@ -43,12 +45,14 @@ pub(crate) fn find<T: Tree>(
 // What stands under this name; `path` is its path. Only what was put aside is asked whether it is empty.
 fn find_one<T: Tree>(tree: &mut T, name: &Name, path: &Path) -> Result<Found, StartEnd>
     requires path { path.now ≡ staged name.now }
-    ensures found { T.Tells → IfOk result (λ f. f ≡ found_at (current_tree (T.history tree.old)) name.now) }
+    ensures found { T.Tells → IfOk result (λ f. f ≡
+        found_at (current_tree (T.history tree.old)) name.now) }
     ensures name { IfOk result (λ f. f.name ≡ name_read name.now) }
     ensures looked { T.Tells → OnlyLooked (failed_in failed_start result)
         (T.history tree.old) (T.history tree.new) (T.fields tree.old) (T.fields tree.new)
         (T.before_failed tree.old) (T.before_failed tree.new) }
-    ensures faults { T.faults tree.new ≡ faults_with (failed_in failed_start result) (T.faults tree.old) }
+    ensures faults { T.faults tree.new ≡ faults_with (failed_in failed_start result)
+        (T.faults tree.old) }
     ensures unchanged { T.changes tree.new ≡ T.changes tree.old }
     ensures untold { IfErr result (λ e. is_told e ≡ false) }
 {
@@ -80,11 +84,13 @@ fn is_held(name: StagedName) -> bool
 
 // What stands at a path.
 pub(crate) fn kind_at<T: Tree>(tree: &mut T, path: &Path) -> Result<Option<Kind>, StartEnd>
-    ensures kind { T.Tells → IfOk result (λ kind. kind ≡ option_map kind_of (get (current_tree (T.history tree.old)) path.now)) }
+    ensures kind { T.Tells → IfOk result (λ kind. kind ≡
+        option_map kind_of (get (current_tree (T.history tree.old)) path.now)) }
     ensures looked { T.Tells → OnlyLooked (failed_in failed_start result)
         (T.history tree.old) (T.history tree.new) (T.fields tree.old) (T.fields tree.new)
         (T.before_failed tree.old) (T.before_failed tree.new) }
-    ensures faults { T.faults tree.new ≡ faults_with (failed_in failed_start result) (T.faults tree.old) }
+    ensures faults { T.faults tree.new ≡ faults_with (failed_in failed_start result)
+        (T.faults tree.old) }
     ensures unchanged { T.changes tree.new ≡ T.changes tree.old }
     ensures untold { IfErr result (λ e. is_told e ≡ false) }
 {
@@ -97,11 +103,13 @@ pub(crate) fn kind_at<T: Tree>(tree: &mut T, path: &Path) -> Result<Option<Kind>
 // Whether nothing stands in a directory.
 fn is_empty_at<T: Tree>(tree: &mut T, path: &Path) -> Result<bool, StartEnd>
     requires dir { T.Tells → IsDir (current_tree (T.history tree.old)) path.now }
-    ensures empty { T.Tells → IfOk result (λ empty. empty ≡ has_none (names_in (current_tree (T.history tree.old)) path.now)) }
+    ensures empty { T.Tells → IfOk result (λ empty. empty ≡
+        has_none (names_in (current_tree (T.history tree.old)) path.now)) }
     ensures looked { T.Tells → OnlyLooked (failed_in failed_start result)
         (T.history tree.old) (T.history tree.new) (T.fields tree.old) (T.fields tree.new)
         (T.before_failed tree.old) (T.before_failed tree.new) }
-    ensures faults { T.faults tree.new ≡ faults_with (failed_in failed_start result) (T.faults tree.old) }
+    ensures faults { T.faults tree.new ≡ faults_with (failed_in failed_start result)
+        (T.faults tree.old) }
     ensures unchanged { T.changes tree.new ≡ T.changes tree.old }
     ensures untold { IfErr result (λ e. is_told e ≡ false) }
 {
@@ -118,11 +126,13 @@ pub(crate) fn names_at<T: Tree>(
     path: &Path,
 ) -> Result<Vec<Name>, StartEnd>
     requires dir { T.Tells → IsDir (current_tree (T.history tree.old)) path.now }
-    ensures names { T.Tells → IfOk result (λ names. names.items ≡ names_in (current_tree (T.history tree.old)) path.now) }
+    ensures names { T.Tells → IfOk result (λ names. names.items ≡
+        names_in (current_tree (T.history tree.old)) path.now) }
     ensures looked { T.Tells → OnlyLooked (failed_in failed_start result)
         (T.history tree.old) (T.history tree.new) (T.fields tree.old) (T.fields tree.new)
         (T.before_failed tree.old) (T.before_failed tree.new) }
-    ensures faults { T.faults tree.new ≡ faults_with (failed_in failed_start result) (T.faults tree.old) }
+    ensures faults { T.faults tree.new ≡ faults_with (failed_in failed_start result)
+        (T.faults tree.old) }
     ensures unchanged { T.changes tree.new ≡ T.changes tree.old }
     ensures untold { IfErr result (λ e. is_told e ≡ false) }
 {

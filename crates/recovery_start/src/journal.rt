@@ -31,7 +31,8 @@ pub(crate) fn read_steps<T: Tree>(
     ensures looked { T.Tells → OnlyLooked (failed_in failed_start result)
         (T.history tree.old) (T.history tree.new) (T.fields tree.old) (T.fields tree.new)
         (T.before_failed tree.old) (T.before_failed tree.new) }
-    ensures faults { T.faults tree.new ≡ faults_with (failed_in failed_start result) (T.faults tree.old) }
+    ensures faults { T.faults tree.new ≡ faults_with (failed_in failed_start result)
+        (T.faults tree.old) }
     ensures unchanged { T.changes tree.new ≡ T.changes tree.old }
 {
     let bytes = match tree.read(alloc, path, MAX_JOURNAL_BYTES) {

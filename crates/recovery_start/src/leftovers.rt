@@ -1,6 +1,5 @@
 // What an interrupted commit left in a tree.
 ghost use Rattle.std.specs.Prelude.{◌≡◌, ◌<◌, Some, None, IfErr, IfOk, IfSome, MatchResult, false, length, map};
-ghost use Rattle.std.specs.FinMap.{get};
 ghost use Rattle.std.specs.List.{slice_get, AllByRecursion};
 ghost use Rattle.commit_steps.specs.Staging.{staged, staging as staging_directory, staging_name};
 ghost use Rattle.staging_names.specs.declared.staged_name.Journal.{Journal as a_journal};
@@ -10,7 +9,7 @@ ghost use Rattle.tree_core.specs.Fields.{names_in};
 ghost use Rattle.tree_core.specs.FileTree.{IsDir, IsFile};
 ghost use Rattle.tree_core.specs.History.{current_tree};
 ghost use Rattle.tree_core.specs.Looks.{OnlyLooked, failed_in, faults_with};
-ghost use Rattle.recovery_start.specs.Start.{HasBadJournal, HasSteps, IsEnd, IsSortedOut, IsStanding, IsStart, IsJournalEnd, IsForeignEnd, failed_start, found_in, is_told, name_found};
+ghost use Rattle.recovery_start.specs.Start.{HasSteps, IsEnd, IsSortedOut, IsStanding, IsStart, IsJournalEnd, IsForeignEnd, failed_start, found_in, is_told, name_found};
 
 use crate::StartEnd;
 use crate::finding::{find, kind_at, names_at};
@@ -60,7 +59,8 @@ pub fn find_leftovers<T: Tree>(alloc: Global, tree: &mut T) -> Result<Option<Lef
     ensures looked { T.Tells → OnlyLooked (failed_in failed_start result)
         (T.history tree.old) (T.history tree.new) (T.fields tree.old) (T.fields tree.new)
         (T.before_failed tree.old) (T.before_failed tree.new) }
-    ensures faults { T.faults tree.new ≡ faults_with (failed_in failed_start result) (T.faults tree.old) }
+    ensures faults { T.faults tree.new ≡ faults_with (failed_in failed_start result)
+        (T.faults tree.old) }
     ensures unchanged { T.changes tree.new ≡ T.changes tree.old }
 {
     let staging = staging_path(alloc)?;
@@ -88,12 +88,14 @@ fn no_directory(alloc: Global) -> StartEnd
 fn leftovers_in<T: Tree>(alloc: Global, tree: &mut T, staging: &Path) -> Result<Leftovers, StartEnd>
     requires staging { staging.now ≡ staging_directory }
     requires dir { T.Tells → IsDir (current_tree (T.history tree.old)) staging.now }
-    ensures found { T.Tells → MatchResult result (IsStanding (current_tree (T.history tree.old))) (IsEnd (current_tree (T.history tree.old))) }
+    ensures found { T.Tells → MatchResult result (IsStanding (current_tree (T.history tree.old)))
+        (IsEnd (current_tree (T.history tree.old))) }
     ensures sorted_out { IfOk result IsSortedOut }
     ensures looked { T.Tells → OnlyLooked (failed_in failed_start result)
         (T.history tree.old) (T.history tree.new) (T.fields tree.old) (T.fields tree.new)
         (T.before_failed tree.old) (T.before_failed tree.new) }
-    ensures faults { T.faults tree.new ≡ faults_with (failed_in failed_start result) (T.faults tree.old) }
+    ensures faults { T.faults tree.new ≡ faults_with (failed_in failed_start result)
+        (T.faults tree.old) }
     ensures unchanged { T.changes tree.new ≡ T.changes tree.old }
 {
     let scan = list_staging(alloc, tree, staging)?;
@@ -120,15 +122,18 @@ fn leftovers_in<T: Tree>(alloc: Global, tree: &mut T, staging: &Path) -> Result<
 fn list_staging<T: Tree>(alloc: Global, tree: &mut T, staging: &Path) -> Result<Scan, StartEnd>
     requires staging { staging.now ≡ staging_directory }
     requires dir { T.Tells → IsDir (current_tree (T.history tree.old)) staging.now }
-    ensures names { T.Tells → IfOk result (λ s. s.names.items ≡ names_in (current_tree (T.history tree.old)) staging_directory) }
-    ensures found { T.Tells → IfOk result (λ s. s.found.items ≡ found_in (current_tree (T.history tree.old))) }
+    ensures names { T.Tells → IfOk result (λ s. s.names.items ≡
+        names_in (current_tree (T.history tree.old)) staging_directory) }
+    ensures found { T.Tells → IfOk result (λ s. s.found.items ≡
+        found_in (current_tree (T.history tree.old))) }
     ensures untold { IfErr result (λ e. is_told e ≡ false) }
     ensures named { IfOk result (λ s. map name_found s.found.items ≡ map name_read s.names.items) }
     ensures paths { IfOk result (λ s. s.paths.items ≡ map staged s.names.items) }
     ensures looked { T.Tells → OnlyLooked (failed_in failed_start result)
         (T.history tree.old) (T.history tree.new) (T.fields tree.old) (T.fields tree.new)
         (T.before_failed tree.old) (T.before_failed tree.new) }
-    ensures faults { T.faults tree.new ≡ faults_with (failed_in failed_start result) (T.faults tree.old) }
+    ensures faults { T.faults tree.new ≡ faults_with (failed_in failed_start result)
+        (T.faults tree.old) }
     ensures unchanged { T.changes tree.new ≡ T.changes tree.old }
 {
     let names = names_at(alloc, tree, staging)?;
@@ -147,13 +152,17 @@ fn steps_of<T: Tree>(
     tree: &mut T,
     journal: Option<Journal>,
 ) -> Result<Steps, StartEnd>
-    requires file { T.Tells → (j : a_journal) → journal ≡ Some j → IsFile (current_tree (T.history tree.old)) (staged (name_of_journal j)) }
-    ensures read { T.Tells → MatchResult result (HasSteps (current_tree (T.history tree.old)) journal) (IsJournalEnd (current_tree (T.history tree.old)) journal) }
+    requires file { T.Tells → (j : a_journal) → journal ≡ Some j →
+        IsFile (current_tree (T.history tree.old)) (staged (name_of_journal j)) }
+    ensures read { T.Tells → MatchResult result
+        (HasSteps (current_tree (T.history tree.old)) journal)
+        (IsJournalEnd (current_tree (T.history tree.old)) journal) }
     ensures steps { IfOk result (λ steps. AllByRecursion IsStep steps) }
     ensures looked { T.Tells → OnlyLooked (failed_in failed_start result)
         (T.history tree.old) (T.history tree.new) (T.fields tree.old) (T.fields tree.new)
         (T.before_failed tree.old) (T.before_failed tree.new) }
-    ensures faults { T.faults tree.new ≡ faults_with (failed_in failed_start result) (T.faults tree.old) }
+    ensures faults { T.faults tree.new ≡ faults_with (failed_in failed_start result)
+        (T.faults tree.old) }
     ensures unchanged { T.changes tree.new ≡ T.changes tree.old }
 {
     match journal {

@@ -1,14 +1,14 @@
 -- What is kept of steps, and what calls leave of it.
-use Rattle.std.proofs.Common.{◌≡◌, ◌≢◌, ℕ, ◌+◌, ◌-◌, ◌<◌, ◌≤◌, zero, suc, List, [], ◌∷◌, ◌++◌, length, map, refl, ap, sym, subst, ◌∙◌, arith, true, false, ◌⊎◌, inl, inr, length-append, append_assoc, Contains}
-use Rattle.link_rows.specs.Net.{Net, AllRows, Chain, IsList, CanRelink, last_of, next_of, nodes, prev_of}
+use Rattle.std.proofs.Common.{◌≡◌, ℕ, ◌+◌, ◌-◌, ◌<◌, ◌≤◌, zero, suc, List, [], ◌∷◌, ◌++◌, length, map, refl, ap, sym, subst, ◌∙◌, arith, Contains}
+use Rattle.link_rows.specs.Net.{Net, Chain, IsList, nodes}
 use Rattle.link_rows.specs.Unlinked.{IsUnlinked, KeepsNeighbours}
 use Rattle.link_rows.specs.declared.rows.RowId.{RowId}
-use Rattle.link_rows.proofs.NetLemmas.{Misses, Unique, misses-append, misses-join, same}
+use Rattle.link_rows.proofs.NetLemmas.{Misses, misses-append, misses-join, same}
 use Rattle.link_rows.proofs.KeptLemmas.{not-missed}
 use Rattle.section_rows.specs.declared.undo.Undo.{Undo}
 use Rattle.section_rows.specs.declared.undo.Undo.TheVariants as kept
-use Rattle.section_rows.specs.Orders.{Step, Taken, Put, run, place_of, with_at, without, without_run}
-use Rattle.section_rows.specs.Kept.{AreLists, IsGap, IsHeld, IsIn, IsKept, first_of, nodes_of, order_of, place_behind, steps_of, walk}
+use Rattle.section_rows.specs.Orders.{Taken, Put, run, with_at}
+use Rattle.section_rows.specs.Kept.{AreLists, IsGap, IsIn, IsKept, nodes_of, order_of, place_behind, steps_of, walk}
 use Rattle.section_rows.proofs.OrderLemmas.{nodes-missed, rows-back, with-at}
 
 pub walk-is : (s : Net) (a : ℕ) (xs : List ℕ) (b : ℕ) → Chain s a xs b → walk (length xs) s a ≡ xs

@@ -1,16 +1,14 @@
 -- The three lists, and what calls leave of them.
-use Rattle.std.proofs.Common.{◌≡◌, ◌≢◌, ℕ, ◌+◌, ◌-◌, ◌<◌, ◌≤◌, zero, suc, List, [], ◌∷◌, ◌++◌, length, map, refl, ap, sym, subst, ◌∙◌, arith, true, false, ◌⊎◌, inl, inr, append_assoc, Contains, if◌then◌else◌, ◌==◌}
+use Rattle.std.proofs.Common.{◌≡◌, ◌≢◌, ℕ, ◌+◌, ◌-◌, ◌<◌, suc, List, [], ◌∷◌, ◌++◌, refl, ap, sym, subst, ◌∙◌, arith, inl, inr, Contains, if◌then◌else◌, ◌==◌}
 use Rattle.std.proofs.lemmas.Bool.Decides.{eqb_tells}
-use Rattle.std.proofs.lemmas.List.{append-nil}
 use Rattle.std.proofs.lemmas.List.Elements.{Contains-append_left, Contains-append_right, Contains-push}
-use Rattle.link_rows.specs.Net.{Net, Chain, IsList, CanRelink, Cuts, Pushes, Relinks, Splices, Unlinks, cut_out, last_of, next_of, nodes, prev_of, pushed, relinked, spliced, unlinked}
+use Rattle.link_rows.specs.Net.{Net, Chain, IsList, CanRelink, Cuts, Relinks, Splices, Unlinks, cut_out, last_of, next_of, nodes, prev_of, pushed, relinked, spliced, unlinked}
 use Rattle.link_rows.specs.Unlinked.{IsUnlinked, KeepsNeighbours}
 use Rattle.link_rows.proofs.NetLemmas.{Misses, Unique, chain-unique, last-next, misses-append, misses-join, split, unique-missed}
-use Rattle.link_rows.proofs.CutLemmas.{last-of-append}
 use Rattle.link_rows.proofs.KeptLemmas.{in-one-list, kept-by-cut, kept-by-relink, kept-by-splice, kept-by-unlink, neighbours-linked, next-missed, prev-missed}
 use Rattle.section_rows.specs.Orders.{run}
 use Rattle.section_rows.specs.Kept.{AreLists, IsGap, first_of, nodes_of, place_behind}
-use Rattle.section_rows.proofs.OrderLemmas.{Stands, last-node, run-front, run-last, mid-unique, misses-by, nodes-join, nodes-missed, place-behind, rows-unique, stands, unique-back}
+use Rattle.section_rows.proofs.OrderLemmas.{last-node, run-front, run-last, mid-unique, misses-by, nodes-join, nodes-missed, place-behind, rows-unique, stands, unique-back}
 use Rattle.section_rows.proofs.KeptLemmas.{KeepsOut, taken-misses, unlinked-row}
 
 pub order-unique : (s : Net) (order new dead : List ℕ) → AreLists s order new dead → Unique order

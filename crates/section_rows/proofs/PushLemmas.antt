@@ -1,20 +1,20 @@
 -- A new row.
-use Rattle.std.proofs.Common.{◌≡◌, ◌≢◌, ℕ, ◌+◌, ◌-◌, ◌<◌, ◌≤◌, zero, suc, List, [], ◌∷◌, ◌++◌, length, map, refl, ap, sym, subst, ◌∙◌, arith, true, false, ◌⊎◌, inl, inr, length-append, append_assoc}
+use Rattle.std.proofs.Common.{◌≡◌, ◌≢◌, ℕ, ◌+◌, ◌-◌, ◌<◌, ◌≤◌, zero, suc, List, [], ◌∷◌, ◌++◌, length, refl, ap, sym, subst, ◌∙◌, arith, true, false, inl, inr, length-append}
 use Rattle.std.proofs.lemmas.List.{append_cancel_left, append-nil}
 use Rattle.std.proofs.lemmas.Bool.{cases_lt}
-use Rattle.link_rows.specs.Net.{Net, AllBelow, AllRows, IsList, Pushes, nodes, pushed}
+use Rattle.link_rows.specs.Net.{Net, AllBelow, IsList, Pushes, nodes, pushed}
 use Rattle.link_rows.specs.Tables.{Table}
-use Rattle.link_rows.specs.Unlinked.{IsUnlinked, KeepsNeighbours, KeptByPush}
+use Rattle.link_rows.specs.Unlinked.{KeepsNeighbours, KeptByPush}
 use Rattle.link_rows.specs.Values.{HasValues, PushesValue, value_at, values_of, with_pushed}
 use Rattle.link_rows.proofs.NetLemmas.{Misses, below-more, misses-append, misses-join, rows-split, same}
 use Rattle.link_rows.proofs.ValueLemmas.{values-joined}
 use Rattle.section_rows.specs.declared.row.BufferRow.{BufferRow}
-use Rattle.section_rows.specs.declared.row.BufferRow.TheVariants.{Head, Line}
+use Rattle.section_rows.specs.declared.row.BufferRow.TheVariants.{Head}
 use Rattle.section_rows.specs.declared.undo.Undo.{Undo}
 use Rattle.section_rows.specs.declared.undo.Undo.TheVariants as kept
 use Rattle.section_rows.specs.Orders.{pushed_row, run}
 use Rattle.section_rows.specs.Kept.{AreBelow, AreLists, IsHeld, IsKept, nodes_of, seen, steps_of}
-use Rattle.section_rows.proofs.OrderLemmas.{nodes-join, run-below}
+use Rattle.section_rows.proofs.OrderLemmas.{nodes-join}
 use Rattle.section_rows.proofs.KeptLemmas.{KeepsOut, kept-frame, kept-others, order-is, unlinked-row}
 use Rattle.section_rows.proofs.StepLemmas.{held-order, seen-as}
 

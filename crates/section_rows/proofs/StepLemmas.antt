@@ -1,23 +1,23 @@
 -- What each call leaves: what is held, and what a clause sees.
-use Rattle.std.proofs.Common.{◌≡◌, ◌≢◌, ℕ, ◌+◌, ◌-◌, ◌<◌, ◌≤◌, zero, suc, List, [], ◌∷◌, ◌++◌, length, map, refl, ap, sym, subst, ◌∙◌, arith, Contains, length-append, append_assoc, Option, Some, None, get_or, inl, inr, reverse, IfSome, append-nil, OnOk, is_err, Result, Ok, Err, true, false}
+use Rattle.std.proofs.Common.{◌≡◌, ℕ, ◌+◌, ◌-◌, ◌<◌, ◌≤◌, zero, suc, List, [], ◌∷◌, ◌++◌, length, refl, ap, sym, subst, ◌∙◌, arith, Contains, length-append, append_assoc, Option, Some, None, get_or, inl, inr, reverse, IfSome, append-nil, OnOk, is_err, Result, Ok, Err, false}
 use Rattle.std.proofs.Math.ListN.{set}
 use Rattle.std.proofs.lemmas.Bool.Decides.{eqb_tells}
 use Rattle.std.specs.Option.{option_map, option_to_list}
-use Rattle.std.proofs.lemmas.List.{length-set, length_push, reverse-append, length-reverse}
-use Rattle.link_rows.specs.Net.{Net, AllBelow, IsList, AllRows, CanRelink, Cuts, Pushes, Relinks, Splices, Unlinks, cut_out, last_of, next_of, nodes, prev_of, pushed, relinked, spliced, unlinked}
+use Rattle.std.proofs.lemmas.List.{length-set, length_push, reverse-append}
+use Rattle.link_rows.specs.Net.{Net, AllBelow, IsList, AllRows, CanRelink, Cuts, Relinks, Splices, Unlinks, cut_out, last_of, next_of, nodes, prev_of, pushed, relinked, spliced, unlinked}
 use Rattle.link_rows.specs.Tables.{Table}
 use Rattle.link_rows.specs.Tables.{place_of as place_of_row}
 use Rattle.link_rows.proofs.CutLemmas.{last-of-append}
 use Rattle.link_rows.specs.Values.{HasValues, value_at, values_of}
 use Rattle.link_rows.specs.declared.rows.RowId.{RowId}
-use Rattle.link_rows.proofs.NetLemmas.{Misses, Unique, misses-append, misses-join, rows-split}
+use Rattle.link_rows.proofs.NetLemmas.{rows-split}
 use Rattle.section_rows.specs.declared.row.BufferRow.{BufferRow}
 use Rattle.section_rows.specs.declared.undo.Undo.{Undo}
 use Rattle.section_rows.specs.declared.undo.Undo.TheVariants as kept
-use Rattle.section_rows.specs.Orders.{Ordered, Step, Taken, Put, behind_row, given_up, last_taken, put_in, run, place_of, taken, undone, values_in, with_value, with_at, with_behind, without, without_run}
-use Rattle.section_rows.specs.Kept.{AreLists, IsGap, IsHeld, IsIn, IsKept, nodes_of, order_of, seen, steps_of}
-use Rattle.section_rows.proofs.OrderLemmas.{Stands, behind-at, below-cut, below-join, below-less, below-mid, below-split, below-with, nodes-join, run-below, place-at, run-length, stands, with-at, without-at, without-run}
-use Rattle.section_rows.proofs.KeptLemmas.{kept-frame, kept-others, order-is, put-misses, steps-put, steps-taken}
+use Rattle.section_rows.specs.Orders.{Ordered, Step, Taken, Put, behind_row, given_up, last_taken, put_in, run, place_of, taken, undone, values_in, with_value, with_behind}
+use Rattle.section_rows.specs.Kept.{AreLists, IsHeld, IsIn, IsKept, nodes_of, order_of, seen, steps_of}
+use Rattle.section_rows.proofs.OrderLemmas.{behind-at, below-cut, below-join, below-less, below-mid, below-split, below-with, nodes-join, run-below, place-at, run-length, stands, with-at, without-at, without-run}
+use Rattle.section_rows.proofs.KeptLemmas.{kept-frame, order-is, put-misses, steps-put, steps-taken}
 use Rattle.section_rows.proofs.ListLemmas.{WasSpliced, can-relink, gap-taken, keeps-cut, keeps-given-up, keeps-put, keeps-put-back, keeps-taken, lists-cut, lists-given-up, lists-put, lists-put-back, lists-taken, order-unique}
 
 pub held-order : (s : Net) (count built len room : ℕ) (us : List Undo) (h : IsHeld s count built len room us) → order_of s count ≡ h.order

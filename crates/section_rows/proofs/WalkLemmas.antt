@@ -1,5 +1,5 @@
 -- From row to row.
-use Rattle.std.proofs.Common.{◌≡◌, ◌≢◌, ℕ, ◌+◌, ◌-◌, ◌<◌, ◌≤◌, suc, List, [], ◌∷◌, ◌++◌, append_assoc, length, map, drop, refl, ap, sym, subst, ◌∙◌, arith, Contains, Option, Some, None, IfSome, inl, inr}
+use Rattle.std.proofs.Common.{◌≡◌, ℕ, ◌+◌, ◌-◌, List, [], ◌∷◌, ◌++◌, append_assoc, length, drop, refl, ap, sym, subst, ◌∙◌, arith, Contains, Option, Some, None, IfSome, inl, inr}
 use Rattle.std.specs.Option.{option_map}
 use Rattle.std.proofs.lemmas.Bool.Decides.{eqb_tells}
 use Rattle.std.proofs.lemmas.List.Elements.{Contains-append_left, Contains-append_right, Contains-push}
@@ -11,7 +11,7 @@ use Rattle.section_rows.specs.declared.undo.Undo.{Undo}
 use Rattle.section_rows.specs.declared.undo.Undo.TheVariants as kept
 use Rattle.section_rows.specs.Orders.{AreOut, Put, Taken, from_row, rows_from, run}
 use Rattle.section_rows.specs.Kept.{IsHeld, IsKept, nodes_of, order_of, steps_of}
-use Rattle.section_rows.proofs.OrderLemmas.{Stands, misses-not, nodes-join, stands}
+use Rattle.section_rows.proofs.OrderLemmas.{misses-not, nodes-join, stands}
 use Rattle.section_rows.proofs.KeptLemmas.{put-misses, steps-put, steps-taken, taken-misses}
 use Rattle.section_rows.proofs.ListLemmas.{order-unique}
 use Rattle.section_rows.proofs.StepLemmas.{held-order}

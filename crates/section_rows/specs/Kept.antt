@@ -1,6 +1,6 @@
 -- How linked rows hold an order, and what is kept of the steps on it. List 0 has the order, list 1 the rows that are to be
 -- put in, and list 2 those that were given up.
-use Rattle.std.specs.Prelude.{◌≡◌, ◌≢◌, ℕ, ◌+◌, ◌-◌, ◌<◌, ◌≤◌, zero, suc, List, [], ◌∷◌, ◌++◌, length, map, nat_lt, if◌then◌else◌}
+use Rattle.std.specs.Prelude.{◌≡◌, ℕ, ◌+◌, ◌-◌, ◌<◌, ◌≤◌, zero, suc, List, [], ◌∷◌, ◌++◌, length, map, nat_lt, if◌then◌else◌}
 use Rattle.link_rows.specs.Net.{Net, AllBelow, IsList, last_of, next_of, nodes, prev_of}
 use Rattle.link_rows.proofs.NetLemmas.{Misses}
 use Rattle.section_rows.specs.declared.undo.Undo.{Undo}

@@ -176,7 +176,8 @@ impl UndoRows {
     /// The first row of the order.
     pub fn first(&self) -> Option<RowId>
         ensures within { IfSome result (λ row. Contains self.now.order row.0) }
-        ensures rest { rows_from (option_map (λ row. row.0) result) self.now.order ≡ self.now.order }
+        ensures rest { rows_from (option_map (λ row. row.0) result) self.now.order ≡
+            self.now.order }
     {
         self.rows.first(ListId(0))
     }
@@ -185,7 +186,8 @@ impl UndoRows {
     pub fn next(&self, row: RowId) -> Option<RowId>
         requires { Contains self.now.order row.0 }
         ensures within { IfSome result (λ row. Contains self.now.order row.0) }
-        ensures rest { rows_from (option_map (λ row. row.0) result) self.now.order ≡ drop 1 (from_row row.0 self.now.order) }
+        ensures rest { rows_from (option_map (λ row. row.0) result) self.now.order ≡
+            drop 1 (from_row row.0 self.now.order) }
     {
         self.rows.next(row)
     }
@@ -201,7 +203,8 @@ impl UndoRows {
     /// Hides or shows the section of a head. A line stays as it is.
     pub fn set_hidden(&mut self, row: RowId, hidden: bool)
         requires { row.0 < length self.old.values }
-        ensures { self.new ≡ record self.old { values = with_value (with_hidden hidden) row.0 self.old.values } }
+        ensures { self.new ≡ record self.old
+            { values = with_value (with_hidden hidden) row.0 self.old.values } }
     {
         match self.rows.get_mut(row) {
             BufferRow::Head { hidden: was, .. } => *was = hidden,

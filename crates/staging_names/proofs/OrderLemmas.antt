@@ -1,15 +1,15 @@
 -- Where no test fails nothing is foreign.
-use Rattle.std.proofs.Common.{◌≡◌, ◌≢◌, ◌⊎◌, inl, inr, ℕ, zero, suc, ◌+◌, Bool, true, false, not, ◌&&◌, List, [], ◌∷◌, length, drop, cond, Option, Some, None, is_some, refl, sym, ◌∙◌, ap, arith}
-use Rattle.std.specs.Prelude.{◌↔◌, is_none, IsTrue}
+use Rattle.std.proofs.Common.{◌≡◌, ◌≢◌, ℕ, ◌+◌, Bool, true, false, not, ◌&&◌, List, [], ◌∷◌, cond, Option, Some, None, is_some, refl, sym, ◌∙◌, ap}
+use Rattle.std.specs.Prelude.{is_none, IsTrue}
 use Rattle.std.specs.List.{AllByRecursion, find, position, position_from}
-use Rattle.std.specs.Option.{option_map, option_or}
+use Rattle.std.specs.Option.{option_or}
 use Rattle.std.proofs.lemmas.Iterator.Adapters.{position_from-zero}
 use Rattle.staging_names.specs.declared.standing.Found as found
 use Rattle.staging_names.specs.declared.staged_name.Journal as journal
 use Rattle.staging_names.specs.declared.staged_name.Journal.TheVariants.{Plan, Done, Undone}
 use Rattle.staging_names.specs.declared.staged_name.Marker as marker
 use Rattle.staging_names.specs.Laws.{IsInOrder}
-use Rattle.staging_names.specs.Tests.{fits, foreign_place, is_journal, is_marker, journal_at, journal_in, journal_of, marker_at, marker_of, beyond_place, counts_more, behind_place, second_position, of_two_journals, unfit, second_marker, unmarked, wants_marker}
+use Rattle.staging_names.specs.Tests.{fits, foreign_place, is_journal, is_marker, journal_at, journal_of, marker_at, marker_of, beyond_place, counts_more, behind_place, second_position, of_two_journals, unfit, second_marker, unmarked, wants_marker}
 
 -- ---- options
 

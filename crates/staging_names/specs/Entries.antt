@@ -1,5 +1,5 @@
 -- The entries of the staging directory with which a recovery deals.
-use Rattle.std.specs.Prelude.{◌↔◌, List, [], ◌∷◌, ◌++◌, Contains, Option, Some, None, Bool, ◌&&◌, if◌then◌else◌}
+use Rattle.std.specs.Prelude.{◌↔◌, List, [], ◌∷◌, ◌++◌, Contains, Option, Some, None, if◌then◌else◌}
 use Rattle.std.specs.List.{filter_map, flat_map}
 use Rattle.std.specs.List.Sorted.{IsStrictlySortedBy}
 use Rattle.std.specs.declared.cmp.Ordering.{Ordering}

@@ -1,5 +1,5 @@
 -- Names are read as they are spelled, and what was found is sorted out as it should be, as statements.
-use Rattle.std.specs.Prelude.{◌≡◌, ◌≢◌, ◌↔◌, ℕ, ◌<◌, ◌-◌, ◌^◌, Bool, false, List, Some, None, IsTrue}
+use Rattle.std.specs.Prelude.{◌≡◌, ◌≢◌, ◌↔◌, ℕ, ◌<◌, ◌-◌, ◌^◌, false, List, Some, None, IsTrue}
 use Rattle.std.specs.List.{AllByRecursion}
 use Rattle.staging_names.specs.declared.standing.Found as found
 use Rattle.staging_names.specs.declared.staged_name.Marker as marker

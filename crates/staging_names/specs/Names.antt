@@ -1,5 +1,5 @@
 -- What names in the staging directory stand for.
-use Rattle.std.specs.Prelude.{◌≡◌, ℕ, ◌<◌, ◌-◌, ◌^◌, Bool, nat_le, List, length, take, drop, codes, Option, Some, None, if◌then◌else◌}
+use Rattle.std.specs.Prelude.{◌≡◌, ℕ, ◌<◌, ◌-◌, ◌^◌, nat_le, List, length, take, drop, codes, Option, Some, None, if◌then◌else◌}
 use Rattle.std.specs.Str.{bytes_eq}
 use Rattle.commit_steps.specs.Staging.{temporary, held, fresh_name, at_marker, back_marker, new_journal, plan, sealed, undone as undone_journal}
 use Rattle.staging_names.specs.declared.entry_name.EntryName.{EntryName}

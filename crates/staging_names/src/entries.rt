@@ -12,7 +12,8 @@ const STAGING: &str = ".wdired-commit";
 
 /// The entries in what was found, and those that a path of a step names, each once, in their order.
 pub fn entries_of(alloc: Global, found: &[Found], steps: &[Step]) -> Result<Vec<EntryName>, Memory>
-    ensures { IfOk result (λ es. AreEntries (entries_found_in found.now ++ entries_named_by steps.now) es.items) }
+    ensures { IfOk result (λ es. AreEntries
+        (entries_found_in found.now ++ entries_named_by steps.now) es.items) }
 {
     let mut entries = entries_found(alloc, found)?;
     push_named(&mut entries, steps)?;
@@ -57,7 +58,8 @@ fn push_of_step(entries: &mut Vec<EntryName>, step: &Step) -> Result<(), Memory>
 
 // Adds the entry that a path names, if it names one.
 fn push_at(entries: &mut Vec<EntryName>, path: &Path) -> Result<(), Memory>
-    ensures { OnOk result (entries.new.items ≡ entries.old.items ++ listed (entry_at_path path.now)) }
+    ensures { OnOk result (entries.new.items ≡ entries.old.items ++
+        listed (entry_at_path path.now)) }
 {
     if let Some(entry) = entry_at(path) {
         entries.push(entry)?;

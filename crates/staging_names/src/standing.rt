@@ -1,7 +1,6 @@
 // What stands in the staging directory, and which of it is foreign.
-ghost use Rattle.std.specs.Prelude.{◌≡◌, Some, None, List, Option, ℕ, IfErr, IfSome, ◌<◌, length, position, not};
-ghost use Rattle.staging_names.specs.declared.standing.Found.{Found as found_type};
-ghost use Rattle.staging_names.specs.Tests.{TellsStanding, allows_entry as entry_in_row, allows_marker as marker_in_row, beyond_place, counts_more as counts_more_than, fits as fits_row, foreign_place, is_at, is_file as is_file_kind, is_file_or_link as is_file_or_link_kind, is_journal as is_journal_found, is_kind_for as kind_for, is_marker as is_marker_found, journal_in as journal_in_name, journal_of as journal_standing, marker_in as marker_in_name, marker_of as marker_standing, of_two_journals, second_position, standing_of, unfit as unfit_place, unmarked as unmarked_place};
+ghost use Rattle.std.specs.Prelude.{◌≡◌, Some, None, Option, IfErr, IfSome, ◌<◌, length, position, not};
+ghost use Rattle.staging_names.specs.Tests.{TellsStanding, allows_entry as entry_in_row, allows_marker as marker_in_row, beyond_place, counts_more as counts_more_than, fits as fits_row, foreign_place, is_file as is_file_kind, is_file_or_link as is_file_or_link_kind, is_journal as is_journal_found, is_kind_for as kind_for, is_marker as is_marker_found, journal_in as journal_in_name, journal_of as journal_standing, marker_in as marker_in_name, marker_of as marker_standing, of_two_journals, second_position, unfit as unfit_place, unmarked as unmarked_place};
 
 use crate::{Journal, Marker, Role, Side, StagedName};
 use tree_core::Kind;

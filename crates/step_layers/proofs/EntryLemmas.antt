@@ -17,7 +17,7 @@ use Rattle.step_trees.proofs.GroupLemmas.{clear_before, tree_step}
 use Rattle.step_trees.proofs.NameLemmas.{apart_outside, apart_staged, none_below}
 use Rattle.step_trees.proofs.StepLemmas.{IsClearStep}
 use Rattle.step_trees.specs.Apart.{AreApart, IsApart, IsApartStep}
-use Rattle.step_trees.specs.Entries.{IsFileOrLink, IsFresh, IsHeld, IsTemporary, HoldsOnly}
+use Rattle.step_trees.specs.Entries.{IsFileOrLink, IsFresh, IsHeld, IsTemporary}
 use Rattle.step_trees.specs.Leads.{HoldsEntries}
 use Rattle.step_trees.specs.Steps.{step_done, IsBefore, IsStep}
 

@@ -1,7 +1,7 @@
 -- Steps lead where they led in each order that keeps that of related steps.
-use Rattle.std.proofs.Common.{◌≡◌, ◌⊎◌, inl, inr, ℕ, ◌+◌, List, [], ◌∷◌, ◌++◌, length, refl, sym, ◌∙◌, ap, subst, arith, length-append, Option, Some}
+use Rattle.std.proofs.Common.{◌≡◌, inl, inr, ℕ, List, [], ◌∷◌, ◌++◌, refl, sym, ◌∙◌, subst, Option, Some, IsPermutation}
+use Rattle.std.proofs.lemmas.List.Sorted.{IsPermutation-cons, IsPermutation-middle, IsPermutation-refl, IsPermutation-sym, IsPermutation-trans, length_permutation}
 use Rattle.std.specs.List.{AllByRecursion}
-use Rattle.tree_core.specs.declared.node.Node.{Node}
 use Rattle.tree_core.specs.FileTree.{FileTree}
 use Rattle.commit_steps.specs.Steps.{HasPaths}
 use Rattle.commit_steps.specs.declared.step.Step.{Step}
@@ -11,9 +11,9 @@ use Rattle.step_trees.proofs.GroupLemmas.{apart_other, before_back, before_there
 use Rattle.step_trees.proofs.StepLemmas.{IsClearStep}
 use Rattle.step_trees.specs.Apart.{AreApart}
 use Rattle.step_trees.specs.Groups.{AreGroups, Independent, IsGroup, groups, joined}
-use Rattle.step_trees.specs.Leads.{start, file_of, Ends, GroupsSetOthers, HoldsEntries, Leads, LeadsFrom, SetApart, SetOther, SetOthers}
+use Rattle.step_trees.specs.Leads.{start, file_of, Ends, GroupsSetOthers, HoldsEntries, LeadsFrom, SetApart, SetOther, SetOthers}
 use Rattle.step_trees.specs.Steps.{after, step_done, IsBefore, IsStep}
-use Rattle.step_layers.specs.Laws.{OrdersHaveAll, OrdersLead}
+use Rattle.step_layers.specs.Laws.{OrdersEndAlike, OrdersHaveAll, OrdersLead}
 use Rattle.step_layers.specs.Order.{KeepsOrder, none, placed, SetNever, SetOnce}
 use Rattle.step_layers.proofs.EntryLemmas.{entries_between}
 
@@ -182,10 +182,33 @@ orders_lead steps sorted old new fresh leads paths once keeps = record {
     runs : Runs (Ends new) (start old fresh) sorted
     runs = (reordered (Ends new) steps sorted keeps (start old fresh) (runs_of new (start old fresh) steps leads.from paths once)).runs
 
+-- ---- the last tree
+
+module _ (P : FileTree → Type 0) where
+  runs_to : (new t : FileTree) (steps : List Step) → LeadsFrom t steps new → AllByRecursion HasPaths steps → SetOnce t steps → P (after steps t) → Runs P t steps
+  runs_to new t [] leads paths once last = (leads.0, last)
+  runs_to new t (s ∷ steps) leads paths once last = (leads.0, record { paths = paths.0; lawful = leads.1 }, leads.2, once.0, runs_to new (step_done s t) steps leads.3 paths.1 once.1 last)
+
+  last_is : (t : FileTree) (steps : List Step) → Runs P t steps → P (after steps t)
+  last_is t [] run = run.1
+  last_is t (s ∷ steps) run = last_is (step_done s t) steps run.4
+
+pub orders_end_alike : OrdersEndAlike
+orders_end_alike steps others old new fresh leads paths once keeps =
+    last_is (λ t. t ≡ after steps (start old fresh)) (start old fresh) others
+    (reordered (λ t. t ≡ after steps (start old fresh)) steps others keeps (start old fresh)
+    (runs_to (λ t. t ≡ after steps (start old fresh)) new (start old fresh) steps leads.from paths once refl)).runs
+
+-- ---- the same steps
+
+permuted : (steps others : List Step) → KeepsOrder steps others → IsPermutation steps others
+permuted _ _ none = IsPermutation-refl []
+permuted _ _ (placed s steps before behind apart keeps) =
+    IsPermutation-trans (s ∷ steps) (s ∷ before ++ behind) (before ++ s ∷ behind)
+    (IsPermutation-cons s steps (before ++ behind) (permuted steps (before ++ behind) keeps))
+    (IsPermutation-sym (before ++ s ∷ behind) (s ∷ before ++ behind) (IsPermutation-middle before s behind))
+
 pub orders_have_all : OrdersHaveAll
-orders_have_all _ _ none = refl
-orders_have_all _ _ (placed s steps before behind apart keeps) =
-    let all = orders_have_all steps (before ++ behind) keeps in
-    let one = length-append before (s ∷ behind) in
-    let two = length-append before behind in
-    omega (arith, all, one, two)
+orders_have_all steps others keeps =
+    let same = permuted steps others keeps in
+    (same, length_permutation steps others same)

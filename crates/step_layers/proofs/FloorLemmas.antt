@@ -1,16 +1,15 @@
 -- From which layer on paths are free, by the tests that tell it and with a step more.
-use Rattle.std.proofs.Common.{◌≡◌, ◌⊎◌, inl, inr, ℕ, zero, suc, ◌+◌, ◌≤◌, max, Bool, true, false, ◌&&◌, not, List, [], ◌∷◌, ◌++◌, length, refl, sym, ◌∙◌, ap, ap₂, arith, if◌then◌else◌}
+use Rattle.std.proofs.Common.{◌≡◌, ℕ, zero, suc, ◌+◌, ◌≤◌, max, Bool, true, false, ◌&&◌, not, List, [], ◌∷◌, length, refl, sym, ◌∙◌, ap, ap₂, arith, if◌then◌else◌}
 use Rattle.std.proofs.lemmas.List.Folds.{list_all-append}
 use Rattle.std.specs.List.{list_all}
 use Rattle.std.specs.Ordering.{eq_by_cmp}
 use Rattle.dired_text.specs.Paths.{Names, path_cmp}
 use Rattle.commit_steps.specs.Tests.{are_apart}
 use Rattle.commit_steps.specs.declared.step.Step.{Step}
-use Rattle.commit_steps.specs.declared.step.Step.TheVariants.{MakeDir, Rename, Mode}
 use Rattle.path_map.specs.Walks.{firsts, is_above}
 use Rattle.step_trees.specs.Groups.{all_paths, paths_of}
 use Rattle.step_cuts.proofs.ApartLemmas.{apart_all, none_at, paths_pushed}
-use Rattle.step_layers.specs.Layers.{free_from, is_unrelated, layer_behind, put}
+use Rattle.step_layers.specs.Layers.{free_from, put}
 
 -- ---- tests
 

@@ -1,6 +1,6 @@
 -- Steps that stand layer by layer have at most as many groups as layers.
-use Rattle.std.proofs.Common.{◌≡◌, ◌⊎◌, inl, inr, ℕ, ◌+◌, ◌<◌, ◌≤◌, Bool, true, false, ◌&&◌, nat_le, List, [], ◌∷◌, ◌++◌, length, refl, sym, ◌∙◌, ap, subst, arith, append_assoc, IsTrue, if◌then◌else◌}
-use Rattle.std.proofs.lemmas.Bool.{cases_Bool, cond-true, cond-false, lt-leb}
+use Rattle.std.proofs.Common.{◌≡◌, ◌⊎◌, inl, inr, ℕ, ◌+◌, ◌<◌, ◌≤◌, Bool, true, false, ◌&&◌, nat_le, List, [], ◌∷◌, ◌++◌, length, refl, sym, ◌∙◌, ap, subst, arith, append_assoc}
+use Rattle.std.proofs.lemmas.Bool.{cases_Bool, cond-true, cond-false, le-leb, lt-leb}
 use Rattle.std.proofs.lemmas.List.{append-nil}
 use Rattle.std.proofs.lemmas.List.Folds.{list_all-append}
 use Rattle.std.specs.List.{AllByRecursion, list_all}
@@ -89,13 +89,17 @@ longest_few ((s ∷ l) ∷ ls) free =
     let k = layers_few ls (s ∷ l) free.1 in
     omega (arith, one, k)
 
-sorted_is : (steps : List Step) → 8 < length steps → by_layer steps ≡ joined (layers steps)
+pub sorted_few : (steps : List Step) → length steps ≤ 8 → by_layer steps ≡ steps
+unfolding by_layer
+sorted_few steps few = cond-true (nat_le (length steps) 8) steps (joined (layers steps)) (le-leb (length steps) 8 few)
+
+pub sorted_is : (steps : List Step) → 8 < length steps → by_layer steps ≡ joined (layers steps)
 unfolding by_layer
 sorted_is steps many = cond-false (nat_le (length steps) 8) steps (joined (layers steps)) (lt-leb (length steps) 8 many)
 
 pub groups_are_few : GroupsAreFew
 groups_are_few steps lawful many =
-    let all = orders_have_all steps (by_layer steps) (layers_keep_order steps) in
+    let all = (orders_have_all steps (by_layer steps) (layers_keep_order steps)).1 in
     let still : 8 < length (by_layer steps) = omega (arith, all, many) in
     let one : length (groups (by_layer steps)) ≡ length (longest (joined (layers steps))) = ap length (groups_many (by_layer steps) still) ∙ ap (λ (l : List Step). length (longest l)) (sorted_is steps many) in
     let few = longest_few (layers steps) (layers_are_independent steps lawful) in

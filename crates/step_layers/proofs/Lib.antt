@@ -6,3 +6,5 @@ pub mod GroupLemmas
 pub mod FloorLemmas
 pub mod RaiseLemmas
 pub mod PutLemmas
+pub mod SoundLemmas
+pub mod SortedLemmas

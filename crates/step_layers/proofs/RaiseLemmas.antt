@@ -1,9 +1,9 @@
 -- Floors that are raised, by the paths of their numbers.
-use Rattle.std.proofs.Common.{◌≡◌, ◌≢◌, ◌⊎◌, inl, inr, ℕ, zero, suc, ◌<◌, ◌==◌, max, Bool, true, false, ◌&&◌, not, List, [], ◌∷◌, length, map, take, get_or, set, length-set, Option, Some, None, is_some, refl, sym, ◌∙◌, ap, ap₂, arith, IsTrue, if◌then◌else◌}
+use Rattle.std.proofs.Common.{◌≡◌, ◌≢◌, ◌⊎◌, inl, inr, ℕ, ◌<◌, ◌≤◌, ◌==◌, max, Bool, true, false, ◌&&◌, not, List, [], ◌∷◌, length, map, take, get_or, set, length-set, Option, Some, None, refl, sym, ◌∙◌, ap, ap₂, arith, if◌then◌else◌}
 use Rattle.std.proofs.lemmas.Bool.{cases_Bool, eq-eqb, eqb-true, false≢true}
-use Rattle.std.proofs.lemmas.List.{get_or-set_other, get_or-set_same, take-map}
+use Rattle.std.proofs.lemmas.List.{get_or-set_other, get_or-set_same, set_past, take-map}
 use Rattle.std.proofs.lemmas.List.Folds.{list_all-map}
-use Rattle.std.proofs.lemmas.Option.{none-some, same_Some}
+use Rattle.std.proofs.lemmas.Option.{none-some}
 use Rattle.std.proofs.lemmas.Slice.Eq.{bytes_eq-Decides}
 use Rattle.std.specs.List.{list_all}
 use Rattle.std.specs.Ordering.{eq_by_cmp}
@@ -25,13 +25,16 @@ is_number i (Some j) = i == j
 abbrev is_off : ℕ → List (Option ℕ) → Bool
 is_off i os = list_all (λ o. not (is_number i o)) os
 
-raised_length : (n : ℕ) (o : Option ℕ) (fs : List ℕ) → length (raised_at n o fs) ≡ length fs
+pub raised_length : (n : ℕ) (o : Option ℕ) (fs : List ℕ) → length (raised_at n o fs) ≡ length fs
 raised_length n None fs = refl
 raised_length n (Some j) fs = length-set fs j (max (get_or fs j 0) n)
 
 pub raised_all_length : (n : ℕ) (os : List (Option ℕ)) (fs : List ℕ) → length (raised_all n os fs) ≡ length fs
 raised_all_length n [] fs = refl
 raised_all_length n (o ∷ os) fs = raised_all_length n os (raised_at n o fs) ∙ raised_length n o fs
+
+pub raised_past : (fs : List ℕ) (i x : ℕ) → length fs ≤ i → set fs i x ≡ fs
+raised_past fs i x past = set_past fs i x past
 
 raised_one : (n : ℕ) (o : Option ℕ) (fs : List ℕ) (i : ℕ) → i < length fs → get_or (raised_at n o fs) i 0 ≡ max (if not (is_number i o) then 0 else n) (get_or fs i 0)
 raised_one n None fs i within = omega arith

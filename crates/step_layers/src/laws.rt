@@ -3,14 +3,16 @@ ghost use Rattle.step_layers.specs.Laws.{
   GroupsAreFew,
   LayersAreIndependent,
   LayersKeepOrder,
+  OrdersEndAlike,
   OrdersHaveAll,
   OrdersLead,
 };
 
 /// Steps that lead from an old tree to an edited one, no two of which set the mode of one file, do so in each order that keeps that
-/// of steps whose paths are related; and they are as many.
+/// of steps whose paths are related, and the last tree is the same. Such an order has the same steps.
 pub fn orders_lead()
     ensures lead { OrdersLead }
+    ensures alike { OrdersEndAlike }
     ensures all { OrdersHaveAll }
 {}
 

@@ -41,7 +41,7 @@ fn refused(alloc: Global, fault: SettingsFault) -> Result<String, RowFault> {
     }
 }
 
-/// What the rules say: whether a name is omitted, and the command that is guessed for files of these names.
+/// What the rules say: whether a name is omitted, how many of many are, and the command that is guessed for files of these names.
 pub fn answer(alloc: Global, rules: &Option<Rules>, fields: &[&str]) -> Result<String, RowFault> {
     let Some(rules) = rules else {
         return Err(RowFault::Bad);
@@ -51,9 +51,26 @@ pub fn answer(alloc: Global, rules: &Option<Rules>, fields: &[&str]) -> Result<S
             let is_omitted = rules.omitted(text_of(alloc, name)?.as_str(), *mark == "marked")?;
             Ok(word(alloc, if is_omitted { "yes" } else { "no" })?)
         }
+        ["omitted-of", count] => counted(alloc, rules, count),
         ["guess", names @ ..] => guessed(alloc, rules, names),
         _ => Err(RowFault::Bad),
     }
+}
+
+// How many of so many names, `file0` and so on, are omitted. One search serves them all.
+fn counted(alloc: Global, rules: &Rules, count: &str) -> Result<String, RowFault> {
+    let Ok(count) = count.parse::<u32>() else {
+        return Err(RowFault::Bad);
+    };
+    let mut omitter = rules.omitter()?;
+    let mut omitted: u32 = 0;
+    for number in 0..count {
+        let name = format!(in alloc; "file{number}")?;
+        if omitter.omits(name.as_str(), false) {
+            omitted = omitted.saturating_add(1);
+        }
+    }
+    Ok(format!(in alloc; "{omitted}")?)
 }
 
 fn guessed(alloc: Global, rules: &Rules, words: &[&str]) -> Result<String, RowFault> {

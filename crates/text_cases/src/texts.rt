@@ -43,7 +43,11 @@ impl Texts {
             ["long-journal", count, length] => journals::long(self.alloc, count, length),
             ["shelf" | "sink" | "shell" | "patterns", ..] => outside::answer(self.alloc, fields),
             ["settings", text] => settings::read(self.alloc, text, &mut self.rules),
-            ["omitted" | "guess", ..] => settings::answer(self.alloc, &self.rules, fields),
+            ["omitted" | "omitted-of" | "guess", ..] => settings::answer(
+                self.alloc,
+                &self.rules,
+                fields,
+            ),
             ["backups", ..] => marks::backups(self.alloc, fields),
             ["marks", words @ ..] => {
                 self.marks = marks::marks_of(self.alloc, words)?;

@@ -1,9 +1,9 @@
 use Rattle.std.proofs.Common.{Option, sym, subst}
 use Rattle.std.specs.Prelude.{MatchOption}
 use Rattle.commit_recover.specs.Answers.{Answers}
-use Rattle.commit_recover.specs.Faults.{NamesFaults}
+use Rattle.commit_recover.specs.Faults.{IsKept, NamesFaults}
 use Rattle.commit_recover.proofs.RecoverLemmas.{answers_recover}
-use Rattle.commit_recover.proofs.StartLemmas.{from_start, not_begun, not_begun_faults}
+use Rattle.commit_recover.proofs.StartLemmas.{from_start, kept_from_start, not_begun, not_begun_faults, not_begun_kept}
 use Rattle.commit_steps.specs.Staging.{staging}
 use Rattle.recovery_start.specs.declared.leftovers.Leftovers.{Leftovers}
 use Rattle.recovery_start.specs.Start.{IsStanding}
@@ -70,3 +70,19 @@ returns-in-Err-clause-faults g c =
     let T = g.T.Tree in
     subst (NamesFaults (T.faults c.args.tree.now) (T.faults c.find_leftovers.new.tree)) (sym c.into.ensures)
     (not_begun_faults (T.faults c.args.tree.now) (T.faults c.find_leftovers.new.tree) c.in-Err.end c.in-Err.ensures.faults)
+
+pub returns-in-Ok-None-clause-kept : goal.returns-in-Ok-None-clause-kept
+returns-in-Ok-None-clause-kept g c =
+    let T = g.T.Tree in
+    kept_from_start (T.changes c.args.tree.now) (T.changes c.find_leftovers.new.tree) (T.changes c.settled.new.tree) c.settled.result c.find_leftovers.ensures.unchanged c.settled.ensures.kept
+
+pub returns-in-Ok-Some-clause-kept : goal.returns-in-Ok-Some-clause-kept
+returns-in-Ok-Some-clause-kept g c =
+    let T = g.T.Tree in
+    kept_from_start (T.changes c.args.tree.now) (T.changes c.find_leftovers.new.tree) (T.changes c.recovered.new.tree) c.recovered.result c.find_leftovers.ensures.unchanged c.recovered.ensures.kept
+
+pub returns-in-Err-clause-kept : goal.returns-in-Err-clause-kept
+returns-in-Err-clause-kept g c =
+    let T = g.T.Tree in
+    subst (IsKept (T.changes c.args.tree.now) (T.changes c.find_leftovers.new.tree)) (sym c.into.ensures)
+    (not_begun_kept (T.changes c.args.tree.now) (T.changes c.find_leftovers.new.tree) c.in-Err.end c.find_leftovers.ensures.unchanged)

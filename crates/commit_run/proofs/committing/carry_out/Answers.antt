@@ -42,7 +42,7 @@ returns-in-Err-clause-ends g c tells =
     let first = c.in-Err.first in
     let made : staging_calls c.deref.result.now c.as_slice.result.now ≡ staging_calls p.fresh.items p.journal = search rules in
     let failed = subst (λ (cs : List Change). FailedIn cs h last before first) made (c.in-Err.ensures.ran tells) in
-    subst (EndsFrom p synced h now after) (sym c.ended.ensures)
+    subst (EndsFrom p synced h now after) (sym c.ended.ensures.end)
     (staging_ends p c.requires.prepared h now after (g.met.T.Tree.is_sound c.back_before_groups.new.tree tells) last before first c.back_before_groups.result (has_groups p.steps c.requires.some) failed
     (c.back_before_groups.ensures.ran tells))
 
@@ -89,7 +89,7 @@ returns-in-Err-do_groups-clause-ends g c tells =
     let staged = (c.in_default.ensures.ran tells).0 ∙ ap (then_all h) made in
     let lt : s.group < length (groups p.steps) = search rules in
     let failed = subst (λ (ss : List Step). StoppedIn (groups ss) s mid last before) all (c.in-Err-do_groups.ensures.stopped tells) in
-    subst (EndsFrom p synced h now after) (sym c.ended-in-Err-do_groups.ensures)
+    subst (EndsFrom p synced h now after) (sym c.ended-in-Err-do_groups.ensures.end)
     (group_ends p c.requires.prepared h now after (g.met.T.Tree.is_sound c.back_from.new.tree tells) mid staged last before s c.back_from.result lt failed (c.back_from.ensures.ran tells))
 
 pub seal_and_clean-requires-clause-begun : goal.seal_and_clean-requires-clause-begun

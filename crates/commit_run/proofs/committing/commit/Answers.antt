@@ -1,7 +1,7 @@
 use Rattle.std.proofs.Common.{◌≡◌, [], length, sym, ◌∙◌, ap, rules}
 use Rattle.std.proofs.lemmas.List.{nil_from_length}
 use Rattle.commit_run.specs.declared.end.CommitEnd.TheVariants as end
-use Rattle.commit_run.proofs.CommitLemmas.{ends_empty, ends_fault}
+use Rattle.commit_run.proofs.CommitLemmas.{ends_empty, ends_fault, kept_begun}
 use Rattle.commit_run.proofs.PromiseLemmas.{begins, commits, edited_tree}
 use Rattle.commit_run.proofs.committing.commit.Goals as goal
 
@@ -65,3 +65,8 @@ returns-clause-commit g c tells =
     let fits = c.in-Ok.ensures.fits in
     commits checked p fits o old durable sound c.in-Ok.ensures.fresh c.in-Ok.ensures.count now after c.carry_out.result
     (c.carry_out.ensures.ends tells o (edited_tree checked p fits o old durable sound) (begins checked p fits o old durable sound) (c.in_default-sync.ensures.ran tells).0)
+
+pub returns-clause-kept : goal.returns-clause-kept
+returns-clause-kept g c =
+    let T = g.T.Tree in
+    kept_begun (T.changes c.args.tree.now) (T.changes c.carry_out.new.tree) c.carry_out.result c.carry_out.ensures.begun

@@ -53,7 +53,7 @@ returns-in-Ok-false-clause-ends g c tells =
     let none : is_some (get (current_tree mid) (staged sealed)) ≡ false = search rules in
     let cut : c.last_cut.result ≡ length (groups p.steps) = search rules in
     let ran = subst (λ n. RanOrLooked (way_back p.steps p.fresh.items n mid) mid now between after c.back_from.result) cut (c.back_from.ensures.ran tells) in
-    subst (EndsFromSeal p c.args.first last before now after) (sym c.ended.ensures)
+    subst (EndsFromSeal p c.args.first last before now after) (sym c.ended.ensures.end)
     (unsealed_ends p c.requires.prepared last mid before between c.args.first same kept none now after c.back_from.result (g.met.T.Tree.is_sound c.back_from.new.tree tells) ran)
 
 pub returns-in-Err-clause-ends : goal.returns-in-Err-clause-ends

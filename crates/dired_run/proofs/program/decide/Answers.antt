@@ -6,47 +6,47 @@ use Rattle.dired_run.proofs.program.decide.Goals as goal
 
 pub returns-in-Ok-List-clause-decides : goal.returns-in-Ok-List-clause-decides
 returns-in-Ok-List-clause-decides g c tells also =
-    let before = outside (g.T.Tree.history c.args.tree.now) (g.T.Tree.fields c.args.tree.now) (g.T.Tree.faults c.args.tree.now) (g.T.Tree.before_failed c.args.tree.now) (g.H.Shelf.faults c.args.shelf.now) (g.H.Shelf.last_failed c.args.shelf.now) in
-    let now = outside (g.T.Tree.history c.list.new.tree) (g.T.Tree.fields c.list.new.tree) (g.T.Tree.faults c.list.new.tree) (g.T.Tree.before_failed c.list.new.tree) (g.H.Shelf.faults c.args.shelf.now) (g.H.Shelf.last_failed c.args.shelf.now) in
+    let before = outside (g.T.Tree.history c.args.tree.now) (g.T.Tree.fields c.args.tree.now) (g.T.Tree.faults c.args.tree.now) (g.T.Tree.changes c.args.tree.now) (g.T.Tree.before_failed c.args.tree.now) (g.H.Shelf.faults c.args.shelf.now) (g.H.Shelf.last_failed c.args.shelf.now) in
+    let now = outside (g.T.Tree.history c.list.new.tree) (g.T.Tree.fields c.list.new.tree) (g.T.Tree.faults c.list.new.tree) (g.T.Tree.changes c.list.new.tree) (g.T.Tree.before_failed c.list.new.tree) (g.H.Shelf.faults c.args.shelf.now) (g.H.Shelf.last_failed c.args.shelf.now) in
     list_decides (map string_bytes c.args.words.now) (g.H.Shelf.files c.args.shelf.now) before now c.in-Ok-List.switches c.in-Ok-List.dirs c.as_slice.result.now _ _ (is_command (map string_bytes c.args.words.now) c.read_words.result _ _ c.read_words.ensures c.in-Ok-List.is c.in-Ok-List.field-0-is) c.as_slice.ensures
     (c.list.ensures.decides tells (g.H.Shelf.faults c.args.shelf.now) (g.H.Shelf.faults c.args.shelf.now) (g.H.Shelf.last_failed c.args.shelf.now) (g.H.Shelf.last_failed c.args.shelf.now) refl)
 
 pub returns-in-Ok-List-clause-decided : goal.returns-in-Ok-List-clause-decided
 returns-in-Ok-List-clause-decided g c =
-    let before = outside (g.T.Tree.history c.args.tree.now) (g.T.Tree.fields c.args.tree.now) (g.T.Tree.faults c.args.tree.now) (g.T.Tree.before_failed c.args.tree.now) (g.H.Shelf.faults c.args.shelf.now) (g.H.Shelf.last_failed c.args.shelf.now) in
-    let now = outside (g.T.Tree.history c.list.new.tree) (g.T.Tree.fields c.list.new.tree) (g.T.Tree.faults c.list.new.tree) (g.T.Tree.before_failed c.list.new.tree) (g.H.Shelf.faults c.args.shelf.now) (g.H.Shelf.last_failed c.args.shelf.now) in
-    tree_decided g.T.Tree.Tells g.H.Shelf.Tells _ before now c.list.result c.list.ensures.end c.list.ensures.calls refl
+    let before = outside (g.T.Tree.history c.args.tree.now) (g.T.Tree.fields c.args.tree.now) (g.T.Tree.faults c.args.tree.now) (g.T.Tree.changes c.args.tree.now) (g.T.Tree.before_failed c.args.tree.now) (g.H.Shelf.faults c.args.shelf.now) (g.H.Shelf.last_failed c.args.shelf.now) in
+    let now = outside (g.T.Tree.history c.list.new.tree) (g.T.Tree.fields c.list.new.tree) (g.T.Tree.faults c.list.new.tree) (g.T.Tree.changes c.list.new.tree) (g.T.Tree.before_failed c.list.new.tree) (g.H.Shelf.faults c.args.shelf.now) (g.H.Shelf.last_failed c.args.shelf.now) in
+    tree_decided g.T.Tree.Tells g.H.Shelf.Tells _ before now c.list.result c.list.ensures.end c.list.ensures.calls c.list.ensures.kept refl
     (λ tells. c.list.ensures.decides tells (g.H.Shelf.faults c.args.shelf.now) (g.H.Shelf.faults c.args.shelf.now) (g.H.Shelf.last_failed c.args.shelf.now) (g.H.Shelf.last_failed c.args.shelf.now) refl)
 
 pub returns-in-Ok-Commit-clause-decides : goal.returns-in-Ok-Commit-clause-decides
 returns-in-Ok-Commit-clause-decides g c tells also =
-    let before = outside (g.T.Tree.history c.args.tree.now) (g.T.Tree.fields c.args.tree.now) (g.T.Tree.faults c.args.tree.now) (g.T.Tree.before_failed c.args.tree.now) (g.H.Shelf.faults c.args.shelf.now) (g.H.Shelf.last_failed c.args.shelf.now) in
-    let now = outside (g.T.Tree.history c.commit_buffers.new.tree) (g.T.Tree.fields c.commit_buffers.new.tree) (g.T.Tree.faults c.commit_buffers.new.tree) (g.T.Tree.before_failed c.commit_buffers.new.tree) (g.H.Shelf.faults c.commit_buffers.new.shelf) (g.H.Shelf.last_failed c.commit_buffers.new.shelf) in
+    let before = outside (g.T.Tree.history c.args.tree.now) (g.T.Tree.fields c.args.tree.now) (g.T.Tree.faults c.args.tree.now) (g.T.Tree.changes c.args.tree.now) (g.T.Tree.before_failed c.args.tree.now) (g.H.Shelf.faults c.args.shelf.now) (g.H.Shelf.last_failed c.args.shelf.now) in
+    let now = outside (g.T.Tree.history c.commit_buffers.new.tree) (g.T.Tree.fields c.commit_buffers.new.tree) (g.T.Tree.faults c.commit_buffers.new.tree) (g.T.Tree.changes c.commit_buffers.new.tree) (g.T.Tree.before_failed c.commit_buffers.new.tree) (g.H.Shelf.faults c.commit_buffers.new.shelf) (g.H.Shelf.last_failed c.commit_buffers.new.shelf) in
     buffers_decide (map string_bytes c.args.words.now) (g.H.Shelf.files c.args.shelf.now) before now c.in-Ok-Commit.all c.in-Ok-Commit.before c.in-Ok-Commit.after c.in-Ok-Commit.confirmed _ _ _
     (is_command (map string_bytes c.args.words.now) c.read_words.result _ _ c.read_words.ensures c.in-Ok-Commit.is c.in-Ok-Commit.field-0-is) (c.from_vec.ensures ∙ c.into_vec.ensures) (c.commit_buffers.ensures.decides tells also)
 
 pub returns-in-Ok-Recover-clause-decides : goal.returns-in-Ok-Recover-clause-decides
 returns-in-Ok-Recover-clause-decides g c tells also =
-    let before = outside (g.T.Tree.history c.args.tree.now) (g.T.Tree.fields c.args.tree.now) (g.T.Tree.faults c.args.tree.now) (g.T.Tree.before_failed c.args.tree.now) (g.H.Shelf.faults c.args.shelf.now) (g.H.Shelf.last_failed c.args.shelf.now) in
-    let now = outside (g.T.Tree.history c.recover_tree.new.tree) (g.T.Tree.fields c.recover_tree.new.tree) (g.T.Tree.faults c.recover_tree.new.tree) (g.T.Tree.before_failed c.recover_tree.new.tree) (g.H.Shelf.faults c.args.shelf.now) (g.H.Shelf.last_failed c.args.shelf.now) in
+    let before = outside (g.T.Tree.history c.args.tree.now) (g.T.Tree.fields c.args.tree.now) (g.T.Tree.faults c.args.tree.now) (g.T.Tree.changes c.args.tree.now) (g.T.Tree.before_failed c.args.tree.now) (g.H.Shelf.faults c.args.shelf.now) (g.H.Shelf.last_failed c.args.shelf.now) in
+    let now = outside (g.T.Tree.history c.recover_tree.new.tree) (g.T.Tree.fields c.recover_tree.new.tree) (g.T.Tree.faults c.recover_tree.new.tree) (g.T.Tree.changes c.recover_tree.new.tree) (g.T.Tree.before_failed c.recover_tree.new.tree) (g.H.Shelf.faults c.args.shelf.now) (g.H.Shelf.last_failed c.args.shelf.now) in
     recovery_decides (map string_bytes c.args.words.now) (g.H.Shelf.files c.args.shelf.now) before now c.in-Ok-Recover.back _ _ (is_command (map string_bytes c.args.words.now) c.read_words.result _ _ c.read_words.ensures c.in-Ok-Recover.is c.in-Ok-Recover.field-0-is)
     (c.recover_tree.ensures.decides tells (g.H.Shelf.faults c.args.shelf.now) (g.H.Shelf.faults c.args.shelf.now) (g.H.Shelf.last_failed c.args.shelf.now) (g.H.Shelf.last_failed c.args.shelf.now) refl)
 
 pub returns-in-Ok-Recover-clause-decided : goal.returns-in-Ok-Recover-clause-decided
 returns-in-Ok-Recover-clause-decided g c =
-    let before = outside (g.T.Tree.history c.args.tree.now) (g.T.Tree.fields c.args.tree.now) (g.T.Tree.faults c.args.tree.now) (g.T.Tree.before_failed c.args.tree.now) (g.H.Shelf.faults c.args.shelf.now) (g.H.Shelf.last_failed c.args.shelf.now) in
-    let now = outside (g.T.Tree.history c.recover_tree.new.tree) (g.T.Tree.fields c.recover_tree.new.tree) (g.T.Tree.faults c.recover_tree.new.tree) (g.T.Tree.before_failed c.recover_tree.new.tree) (g.H.Shelf.faults c.args.shelf.now) (g.H.Shelf.last_failed c.args.shelf.now) in
-    tree_decided g.T.Tree.Tells g.H.Shelf.Tells _ before now c.recover_tree.result c.recover_tree.ensures.end c.recover_tree.ensures.calls refl
+    let before = outside (g.T.Tree.history c.args.tree.now) (g.T.Tree.fields c.args.tree.now) (g.T.Tree.faults c.args.tree.now) (g.T.Tree.changes c.args.tree.now) (g.T.Tree.before_failed c.args.tree.now) (g.H.Shelf.faults c.args.shelf.now) (g.H.Shelf.last_failed c.args.shelf.now) in
+    let now = outside (g.T.Tree.history c.recover_tree.new.tree) (g.T.Tree.fields c.recover_tree.new.tree) (g.T.Tree.faults c.recover_tree.new.tree) (g.T.Tree.changes c.recover_tree.new.tree) (g.T.Tree.before_failed c.recover_tree.new.tree) (g.H.Shelf.faults c.args.shelf.now) (g.H.Shelf.last_failed c.args.shelf.now) in
+    tree_decided g.T.Tree.Tells g.H.Shelf.Tells _ before now c.recover_tree.result c.recover_tree.ensures.end c.recover_tree.ensures.calls c.recover_tree.ensures.kept refl
     (λ tells. c.recover_tree.ensures.decides tells (g.H.Shelf.faults c.args.shelf.now) (g.H.Shelf.faults c.args.shelf.now) (g.H.Shelf.last_failed c.args.shelf.now) (g.H.Shelf.last_failed c.args.shelf.now) refl)
 
 pub returns-in-Err-Usage-clause-decides : goal.returns-in-Err-Usage-clause-decides
 returns-in-Err-Usage-clause-decides g c tells also =
-    let before = outside (g.T.Tree.history c.args.tree.now) (g.T.Tree.fields c.args.tree.now) (g.T.Tree.faults c.args.tree.now) (g.T.Tree.before_failed c.args.tree.now) (g.H.Shelf.faults c.args.shelf.now) (g.H.Shelf.last_failed c.args.shelf.now) in
+    let before = outside (g.T.Tree.history c.args.tree.now) (g.T.Tree.fields c.args.tree.now) (g.T.Tree.faults c.args.tree.now) (g.T.Tree.changes c.args.tree.now) (g.T.Tree.before_failed c.args.tree.now) (g.H.Shelf.faults c.args.shelf.now) (g.H.Shelf.last_failed c.args.shelf.now) in
     usage_decides (map string_bytes c.args.words.now) (g.H.Shelf.files c.args.shelf.now) before before c.read_words.result _ c.read_words.ensures c.in-Err-Usage.is c.in-Err-Usage.field-0-is (record { history = refl; faults = refl }) refl
 
 pub returns-in-Err-Usage-clause-decided : goal.returns-in-Err-Usage-clause-decided
 returns-in-Err-Usage-clause-decided g c =
-    let before = outside (g.T.Tree.history c.args.tree.now) (g.T.Tree.fields c.args.tree.now) (g.T.Tree.faults c.args.tree.now) (g.T.Tree.before_failed c.args.tree.now) (g.H.Shelf.faults c.args.shelf.now) (g.H.Shelf.last_failed c.args.shelf.now) in
+    let before = outside (g.T.Tree.history c.args.tree.now) (g.T.Tree.fields c.args.tree.now) (g.T.Tree.faults c.args.tree.now) (g.T.Tree.changes c.args.tree.now) (g.T.Tree.before_failed c.args.tree.now) (g.H.Shelf.faults c.args.shelf.now) (g.H.Shelf.last_failed c.args.shelf.now) in
     usage_decided g.T.Tree.Tells g.H.Shelf.Tells before
 
 pub returns-in-Err-Memory-clause-decides : goal.returns-in-Err-Memory-clause-decides
@@ -54,5 +54,5 @@ returns-in-Err-Memory-clause-decides g c tells also = no_memory refl refl (recor
 
 pub returns-in-Err-Memory-clause-decided : goal.returns-in-Err-Memory-clause-decided
 returns-in-Err-Memory-clause-decided g c =
-    let before = outside (g.T.Tree.history c.args.tree.now) (g.T.Tree.fields c.args.tree.now) (g.T.Tree.faults c.args.tree.now) (g.T.Tree.before_failed c.args.tree.now) (g.H.Shelf.faults c.args.shelf.now) (g.H.Shelf.last_failed c.args.shelf.now) in
+    let before = outside (g.T.Tree.history c.args.tree.now) (g.T.Tree.fields c.args.tree.now) (g.T.Tree.faults c.args.tree.now) (g.T.Tree.changes c.args.tree.now) (g.T.Tree.before_failed c.args.tree.now) (g.H.Shelf.faults c.args.shelf.now) (g.H.Shelf.last_failed c.args.shelf.now) in
     memory_decided g.T.Tree.Tells g.H.Shelf.Tells before

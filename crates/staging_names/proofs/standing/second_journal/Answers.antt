@@ -1,4 +1,4 @@
-use Rattle.std.proofs.Common.{◌≡◌, None, Some, ◌+◌, sym, ap, ◌∙◌, position, rules}
+use Rattle.std.proofs.Common.{◌≡◌, None, ◌+◌, sym, ap, ◌∙◌, position, rules}
 use Rattle.staging_names.specs.Tests.{is_journal, second_position}
 use Rattle.staging_names.proofs.PlaceLemmas.{no_first_place, no_second_place, second_place, whole_rest}
 use Rattle.staging_names.proofs.standing.second_journal.Goals as goal

@@ -1,4 +1,4 @@
-use Rattle.std.proofs.Common.{◌≡◌, ◌<◌, ◌∙◌, ap, sym, subst, arith, length, reverse, Contains, IfSome, vec_capacity, drop}
+use Rattle.std.proofs.Common.{ap, arith, reverse, Contains, vec_capacity}
 use Rattle.std.specs.Option.{option_map}
 use Rattle.section_rows.proofs.WalkLemmas.{first-held, some-row}
 use Rattle.section_rows.proofs.undo_rows.UndoRows.first.Goals as goal

@@ -1,9 +1,6 @@
-use Rattle.std.proofs.Common.{◌≡◌, ◌+◌, ◌-◌, ◌<◌, ◌≤◌, ◌∙◌, ◌∷◌, [], suc, ap, sym, subst, refl, reverse, arith, rules, length, Contains, vec_capacity, vec_len, IfSome}
-use Rattle.std.specs.Option.{option_map}
-use Rattle.std.proofs.lemmas.List.{length-reverse}
-use Rattle.section_rows.specs.declared.undo.Undo.TheVariants as kept
+use Rattle.std.proofs.Common.{◌-◌, ◌≤◌, ◌∙◌, [], ap, sym, subst, refl, reverse, arith, vec_capacity}
 use Rattle.section_rows.specs.Orders.{forgotten}
-use Rattle.section_rows.specs.Kept.{IsHeld, seen}
+use Rattle.section_rows.specs.Kept.{IsHeld}
 use Rattle.section_rows.proofs.StepLemmas.{forgotten-held, seen-same}
 use Rattle.section_rows.proofs.undo_rows.UndoRows.forget.Goals as goal
 

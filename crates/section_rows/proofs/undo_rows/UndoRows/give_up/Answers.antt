@@ -1,9 +1,5 @@
-use Rattle.std.proofs.Common.{◌≡◌, ◌+◌, ◌-◌, ◌<◌, ◌≤◌, ◌∙◌, ◌∷◌, [], suc, ap, sym, subst, refl, reverse, arith, rules, length, Contains, vec_capacity, vec_len, IfSome}
-use Rattle.std.specs.Option.{option_map}
-use Rattle.std.proofs.lemmas.List.{length-reverse}
-use Rattle.section_rows.specs.declared.undo.Undo.TheVariants as kept
+use Rattle.std.proofs.Common.{◌-◌, ◌∙◌, ap, refl, reverse, arith, length, vec_capacity}
 use Rattle.section_rows.specs.Orders.{given_up}
-use Rattle.section_rows.specs.Kept.{IsHeld, seen}
 use Rattle.section_rows.proofs.StepLemmas.{given-up-held, nodes-spliced, seen-same}
 use Rattle.section_rows.proofs.undo_rows.UndoRows.give_up.Goals as goal
 

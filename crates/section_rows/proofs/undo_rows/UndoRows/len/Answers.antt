@@ -1,4 +1,4 @@
-use Rattle.std.proofs.Common.{◌≡◌, ◌∙◌, ap, sym, length, reverse, vec_capacity}
+use Rattle.std.proofs.Common.{ap, reverse, vec_capacity}
 use Rattle.section_rows.proofs.WalkLemmas.{length-held}
 use Rattle.section_rows.proofs.undo_rows.UndoRows.len.Goals as goal
 

@@ -1,6 +1,5 @@
-use Rattle.std.proofs.Common.{◌≡◌, ◌<◌, ◌∙◌, ap, sym, subst, arith, length, reverse, Contains, IfSome, vec_capacity, drop}
+use Rattle.std.proofs.Common.{◌≡◌, ◌<◌, ap, arith, length, reverse, Contains, vec_capacity}
 use Rattle.std.specs.Option.{option_map}
-use Rattle.section_rows.specs.Kept.{IsHeld, seen}
 use Rattle.section_rows.proofs.StepLemmas.{seen-has, taken-below}
 use Rattle.section_rows.proofs.WalkLemmas.{next-held, some-row}
 use Rattle.section_rows.proofs.undo_rows.UndoRows.next.Goals as goal

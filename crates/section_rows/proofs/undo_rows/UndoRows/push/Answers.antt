@@ -1,10 +1,8 @@
-use Rattle.std.proofs.Common.{◌≡◌, ◌+◌, ◌-◌, ◌<◌, ◌≤◌, ◌∙◌, ◌∷◌, ◌++◌, [], suc, List, ap, sym, subst, refl, reverse, arith, rules, length, Contains, vec_capacity, vec_len, IfSome, IfOk, OnOk, OnErr, is_err, false, append-nil}
-use Rattle.std.specs.Option.{option_map}
-use Rattle.std.proofs.lemmas.List.{length-reverse, length-set, length_push, nil_from_length}
-use Rattle.section_rows.specs.declared.undo.Undo.TheVariants as kept
+use Rattle.std.proofs.Common.{◌≡◌, ◌+◌, ◌-◌, ◌≤◌, ◌∙◌, ◌∷◌, ◌++◌, [], suc, ap, sym, subst, refl, reverse, arith, length, vec_capacity, vec_len, IfOk, OnOk, OnErr, is_err, false}
+use Rattle.std.proofs.lemmas.List.{length-reverse, length_push}
 use Rattle.link_rows.specs.Net.{AllBelow, IsList, Pushes, nodes, pushed}
 use Rattle.section_rows.specs.Orders.{pushed_row, run}
-use Rattle.section_rows.specs.Kept.{IsHeld, nodes_of, seen}
+use Rattle.section_rows.specs.Kept.{IsHeld, nodes_of}
 use Rattle.section_rows.proofs.OrderLemmas.{run-below}
 use Rattle.section_rows.proofs.StepLemmas.{held-more, nodes-pushed, on-ok, seen-equal, seen-same}
 use Rattle.section_rows.proofs.PushLemmas.{new-node, pushed-one}

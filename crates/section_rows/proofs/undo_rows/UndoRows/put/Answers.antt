@@ -1,10 +1,10 @@
-use Rattle.std.proofs.Common.{◌≡◌, ◌+◌, ◌-◌, ◌<◌, ◌≤◌, ◌∙◌, ◌∷◌, [], suc, ap, sym, subst, refl, reverse, arith, rules, length, Contains, vec_capacity, vec_len, IfSome}
+use Rattle.std.proofs.Common.{◌≡◌, ◌+◌, ◌-◌, ◌<◌, ◌≤◌, ◌∙◌, ◌∷◌, ap, sym, subst, reverse, arith, length, Contains, vec_capacity}
 use Rattle.std.specs.Option.{option_map}
 use Rattle.std.proofs.lemmas.List.{length-reverse}
 use Rattle.section_rows.specs.declared.undo.Undo.TheVariants as kept
 use Rattle.link_rows.specs.Tables.{place_of}
 use Rattle.section_rows.specs.Orders.{put_in, run}
-use Rattle.section_rows.specs.Kept.{IsHeld, seen}
+use Rattle.section_rows.specs.Kept.{IsHeld}
 use Rattle.section_rows.proofs.StepLemmas.{held-order, if-some, if-some-row, kept-first, nodes-spliced, put-held, seen-has, seen-same, spot, taken-below}
 use Rattle.section_rows.proofs.undo_rows.UndoRows.put.Goals as goal
 

@@ -1,7 +1,4 @@
-use Rattle.std.proofs.Common.{◌≡◌, ◌+◌, ◌-◌, ◌<◌, ◌≤◌, ◌∙◌, ◌∷◌, [], suc, ap, sym, subst, refl, reverse, arith, rules, length, Contains, vec_capacity, vec_len, IfSome}
-use Rattle.std.specs.Option.{option_map}
-use Rattle.std.proofs.lemmas.List.{length-reverse}
-use Rattle.section_rows.specs.declared.undo.Undo.TheVariants as kept
+use Rattle.std.proofs.Common.{◌-◌, subst, reverse, vec_capacity}
 use Rattle.link_rows.specs.Values.{HasValues}
 use Rattle.section_rows.specs.Orders.{values_in}
 use Rattle.section_rows.proofs.StepLemmas.{values-held}

@@ -1,5 +1,4 @@
-use Rattle.std.proofs.Common.{◌≡◌, ◌<◌, ◌∙◌, ap, sym, subst, arith, length, reverse, Contains, IfSome, vec_capacity, drop}
-use Rattle.std.specs.Option.{option_map}
+use Rattle.std.proofs.Common.{◌≡◌, ◌∙◌, ap, sym, subst, length, reverse, vec_capacity}
 use Rattle.section_rows.specs.Orders.{AreOut}
 use Rattle.section_rows.proofs.WalkLemmas.{below-held, once-held, out-held}
 use Rattle.section_rows.proofs.undo_rows.UndoRows.rows_differ.Goals as goal

@@ -1,7 +1,5 @@
-use Rattle.std.proofs.Common.{◌≡◌, ◌+◌, ◌-◌, ◌<◌, ◌≤◌, ◌∙◌, ◌∷◌, ◌++◌, [], suc, List, ap, sym, subst, refl, reverse, arith, rules, length, Contains, vec_capacity, vec_len, IfSome, IfOk, OnOk, OnErr, is_err, false, append-nil}
-use Rattle.std.specs.Option.{option_map}
-use Rattle.std.proofs.lemmas.List.{length-reverse, length-set, length_push, nil_from_length}
-use Rattle.section_rows.specs.declared.undo.Undo.TheVariants as kept
+use Rattle.std.proofs.Common.{◌≡◌, ◌-◌, ◌<◌, ◌∙◌, ap, sym, subst, reverse, length, vec_capacity}
+use Rattle.std.proofs.lemmas.List.{length-set}
 use Rattle.std.proofs.Common.{ℕ, get_or}
 use Rattle.std.proofs.Math.ListN.{set}
 use Rattle.section_rows.specs.declared.row.BufferRow.{BufferRow}

@@ -1,11 +1,10 @@
-use Rattle.std.proofs.Common.{◌≡◌, ◌+◌, ◌-◌, ◌<◌, ◌≤◌, ◌∙◌, ◌∷◌, ap, sym, subst, reverse, arith, rules, length, Contains, vec_capacity, vec_len}
+use Rattle.std.proofs.Common.{◌≡◌, ◌+◌, ◌-◌, ◌<◌, ◌≤◌, ◌∙◌, ◌∷◌, ap, sym, subst, reverse, arith, length, vec_capacity}
 use Rattle.std.proofs.lemmas.List.{length-reverse}
 use Rattle.link_rows.specs.Net.{Unlinks, unlinked}
 use Rattle.section_rows.specs.declared.undo.Undo.TheVariants as kept
 use Rattle.section_rows.specs.Orders.{taken}
-use Rattle.section_rows.specs.Kept.{IsHeld, order_of, seen}
-use Rattle.section_rows.proofs.StepLemmas.{kept-first, nodes-unlinked, seen-has, seen-same, spot, taken-below, taken-held, taken-some}
-use Rattle.section_rows.proofs.PushLemmas.{pushed-held}
+use Rattle.section_rows.specs.Kept.{IsHeld}
+use Rattle.section_rows.proofs.StepLemmas.{kept-first, nodes-unlinked, seen-has, seen-same, taken-below, taken-held, taken-some}
 use Rattle.section_rows.proofs.undo_rows.UndoRows.take.Goals as goal
 
 pub unlink-requires : goal.unlink-requires

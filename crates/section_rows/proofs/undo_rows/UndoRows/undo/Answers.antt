@@ -1,6 +1,6 @@
-use Rattle.std.proofs.Common.{◌≡◌, ◌+◌, ◌-◌, ◌<◌, ◌≤◌, ◌∙◌, ◌∷◌, ◌++◌, [], suc, List, ap, sym, subst, refl, reverse, arith, rules, length, Contains, vec_capacity, vec_len, IfSome, IfOk, OnOk, OnErr, is_err, false, append-nil}
+use Rattle.std.proofs.Common.{◌≡◌, ◌+◌, ◌-◌, ◌<◌, ◌≤◌, ◌∙◌, ◌∷◌, ◌++◌, [], ap, sym, subst, refl, reverse, arith, length, vec_capacity, append-nil}
 use Rattle.std.specs.Option.{option_map}
-use Rattle.std.proofs.lemmas.List.{length-reverse, length-set, length_push, nil_from_length}
+use Rattle.std.proofs.lemmas.List.{nil_from_length}
 use Rattle.section_rows.specs.declared.undo.Undo.TheVariants as kept
 use Rattle.link_rows.specs.Net.{CanRelink, Cuts, Relinks, cut_out, relinked}
 use Rattle.link_rows.specs.declared.rows.RowId.{RowId}
