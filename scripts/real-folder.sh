@@ -121,6 +121,14 @@ sed 's/ a$/ c/' "$work/before" > "$work/after"
 run 'a path that is confirmed by the root' 1 $'dired: usage: list, commit, run, recover or drill\n' commit ../before ../after .
 { printf 'dired 1\n  .:\n  total 0\n'; yes '' | head -n 399998; } > "$work/many"
 run 'too many lines' 18 $'dired: too large: BufferLines 400001\n' commit ../many ../many
+# so many lines of files that aren't there: they are counted before the tree is looked at
+lines() { awk -v n="$1" 'BEGIN { print "dired 1"; print "  .:"; print "  total " n
+    for (i = 1; i <= n; i++) printf "  -rw-r--r-- 1 user group 0 2026-01-01 00:00 f%06d\n", i }'; }
+lines 262145 > "$work/many"; sed 's/ f/ g/' "$work/many" > "$work/others"
+run 'too many edits' 18 $'dired: too large: Edits 262145\n' commit ../many ../others
+sed '4s/ g/ f/' "$work/others" > "$work/fewer"
+run 'as many edits as there may be' 10 $'dired: line 5: the file is not as shown\n' commit ../many ../fewer
+rm "$work/many" "$work/others" "$work/fewer"
 unchanged 'refusals' "$before"
 
 fresh; mkdir "$work/tree/d"; (cd "$work/tree" && "$program" list d > ../before); sed 's/ a$/ d\/e/' "$work/before" > "$work/after"
