@@ -12,7 +12,7 @@ has() { command -v "$1" > /dev/null 2>&1; }
 
 # What changes the name at the end of a line of a listing, or of a numbered name of vidir.
 suffix() { sed 's/\.txt$/.md/'; }
-swap() { sed 's/\([ /]\)a\([0-9]*\)\.txt$/\1b\2.txt/; t; s/\([ /]\)b\([0-9]*\)\.txt$/\1a\2.txt/'; }
+swap() { sed 's/\(^\|[ /]\)a\([0-9]*\)\.txt$/\1b\2.txt/; t; s/\(^\|[ /]\)b\([0-9]*\)\.txt$/\1a\2.txt/'; }
 cycle() { awk -v n="$files" 'match($0, /a[0-9]+\.txt$/) { i = substr($0, RSTART + 1, 6) % n + 1; $0 = substr($0, 1, RSTART) sprintf("%06d.txt", i) } { print }'; }
 below() { sed 's/a\([0-9]*\.txt\)$/d\1\/a\1/'; }
 

@@ -72,7 +72,6 @@ def main():
     for call in calls:
         call()
     print("%.1f" % (1000 * (time.perf_counter() - begun)))
-    print("%d calls" % len(calls), file=sys.stderr)
     return 0
 
 
