@@ -121,7 +121,26 @@ sed 's/ a$/ c/' "$work/before" > "$work/after"
 run 'a path that is confirmed by the root' 1 $'dired: usage: list, commit, run, recover or drill\n' commit ../before ../after .
 { printf 'dired 1\n  .:\n  total 0\n'; yes '' | head -n 399998; } > "$work/many"
 run 'too many lines' 18 $'dired: too large: BufferLines 400001\n' commit ../many ../many
+# so many lines of files that aren't there: they are counted before the tree is looked at
+lines() { awk -v n="$1" 'BEGIN { print "dired 1"; print "  .:"; print "  total " n
+    for (i = 1; i <= n; i++) printf "  -rw-r--r-- 1 user group 0 2026-01-01 00:00 f%06d\n", i }'; }
+lines 262145 > "$work/many"; sed 's/ f/ g/' "$work/many" > "$work/others"
+run 'too many edits' 18 $'dired: too large: Edits 262145\n' commit ../many ../others
+sed '4s/ g/ f/' "$work/others" > "$work/fewer"
+run 'as many edits as there may be' 10 $'dired: line 5: the file is not as shown\n' commit ../many ../fewer
+rm "$work/many" "$work/others" "$work/fewer"
 unchanged 'refusals' "$before"
+
+# Moved below fifteen directories that are missing, a file counts its old path of 5 bytes, its new one of 3,845 twice, and those of the directories, which have
+# 30,705: 38,400 bytes each, of which 1,747 are within 67,108,864.
+fresh; rm "$work"/tree/[ab]; seq -f "$work/tree/f%04.0f" 1 1748 | xargs touch; chmod 644 "$work"/tree/*; (cd "$work/tree" && "$program" list > ../before)
+below=$(for _ in $(seq 15); do printf '%255s/' '' | tr ' ' d; done)
+sed "s|f\([0-9]*\)\$|${below}f\1|" "$work/before" > "$work/after"; before=$(ls -lA --full-time "$work/tree")
+run 'too many bytes of paths' 18 $'dired: too large: PathBytes 67123200\n' commit ../before ../after
+[ "$before" = "$(ls -lA --full-time "$work/tree")" ] || { failed=1; echo 'FAILED: too many bytes of paths: the folder changed'; }
+sed -i '4s|d*/||g' "$work/after"
+run 'as many bytes of paths as there may be' 0 "${done_one/1, retargeted 0, modes 0, replaced 0, made 0/1747, retargeted 0, modes 0, replaced 0, made 15}" commit ../before ../after
+[ "$(ls "$work/tree/${below}" | wc -l)" = 1747 ] || { failed=1; echo 'FAILED: as many bytes of paths as there may be'; }
 
 fresh; mkdir "$work/tree/d"; (cd "$work/tree" && "$program" list d > ../before); sed 's/ a$/ d\/e/' "$work/before" > "$work/after"
 run 'into another directory' 0 "$done_one" commit ../before ../after
