@@ -23,10 +23,11 @@ fresh() {
 # The names in the folder with the inode and the bytes of each.
 shown() { (cd "$work/tree" && for f in $(ls -A); do printf '%s %s %s\n' "$f" "$(stat -c %i "$f")" "$(md5sum < "$f")"; done); }
 
-# Runs the program in the folder; its status and output must be these: run NAME STATUS OUTPUT WORDS..
+# Runs the program in the folder, with at most `limit` KiB of memory where that is set; its status and output must be these: run NAME STATUS OUTPUT WORDS..
+limit=
 run() {
     local name=$1 status=$2 output=$3; shift 3
-    (cd "$work/tree" && "$program" "$@" > "$work/printed" 2> "$work/errors"); local got=$?
+    (cd "$work/tree" && { [ -z "$limit" ] || ulimit -v "$limit"; } && "$program" "$@" > "$work/printed" 2> "$work/errors"); local got=$?
     printf '%s' "$output" > "$work/wanted"
     if [ "$got" != "$status" ] || ! cmp -s "$work/printed" "$work/wanted" || [ -s "$work/errors" ]; then
         failed=1
@@ -126,8 +127,9 @@ lines() { awk -v n="$1" 'BEGIN { print "dired 1"; print "  .:"; print "  total "
     for (i = 1; i <= n; i++) printf "  -rw-r--r-- 1 user group 0 2026-01-01 00:00 f%06d\n", i }'; }
 lines 262145 > "$work/many"; sed 's/ f/ g/' "$work/many" > "$work/others"
 run 'too many edits' 18 $'dired: too large: Edits 262145\n' commit ../many ../others
-sed '4s/ g/ f/' "$work/others" > "$work/fewer"
+sed '4s/ g0/ f0/' "$work/others" > "$work/fewer"
 run 'as many edits as there may be' 10 $'dired: line 5: the file is not as shown\n' commit ../many ../fewer
+limit=40000; run 'no memory for so many' 2 $'dired: out of memory\n' commit ../many ../fewer; limit=
 rm "$work/many" "$work/others" "$work/fewer"
 unchanged 'refusals' "$before"
 
