@@ -26,23 +26,34 @@ shown() {
     [ ! -e "$work/photos/.wdired-commit" ] || (cd "$work/photos" && ls -A .wdired-commit)
 }
 
-# Kills a commit behind its first steps.
-killed() {
+# Kills a commit behind its first steps, unless it has ended before.
+kill_one() {
+    fresh
     (cd "$work/photos" && exec "$program" commit ../before ../after) > "$work/told" 2>&1 &
     local commit=$!
     until ls "$work"/photos/.wdired-commit/at-[1-9]* > "$work/markers" 2>&1; do
-        kill -0 "$commit" 2> "$work/gone" || { echo 'the commit ended before it could be killed'; exit 1; }
+        kill -0 "$commit" 2> "$work/gone" || break
     done
-    kill -9 "$commit"
+    kill -9 "$commit" 2> "$work/gone" || true
     wait "$commit" 2> "$work/gone" || true
+    ls "$work"/photos/.wdired-commit/at-[1-9]* > "$work/markers" 2>&1
+}
+
+# Kills a commit in the middle.
+killed() {
+    for _ in $(seq 50); do
+        if kill_one; then return; fi
+    done
+    echo 'the commit ended before it could be killed'
+    exit 1
 }
 
 fresh
 printf -- '--- two lines of 60, before and after\n'; sed -n '4,5p' "$work/before"; sed -n '4,5p' "$work/after"
 printf -- '--- dired commit\n'; (cd "$work/photos" && "$program" commit ../before ../after); shown
-fresh; killed
+killed
 printf -- '--- the same edit, killed in the middle\n'; shown
 printf -- '--- dired recover\n'; (cd "$work/photos" && "$program" recover); shown
-fresh; killed
+killed
 printf -- '--- and killed again\n'; shown
 printf -- '--- dired recover --back\n'; (cd "$work/photos" && "$program" recover --back); shown
