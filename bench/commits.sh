@@ -2,7 +2,7 @@
 # Commits of 100, 1,000 and 10,000 names with another suffix, 1,000 swaps, a cycle of 1,000 and 1,000 moves into new directories: the renames,
 # the syncs and the programs started of each, and its time beside that of its peers that are here, which sync nothing: `rename` (util-linux, and
 # Perl's), `mmv`, `qmv` (renameutils) and `vidir` (moreutils). Behind each stands how many times as long the commit takes. Last a program that makes the
-# same calls as a commit of 10,000 suffixes.
+# same calls as three of them.
 # commits.sh [PROGRAM]
 set -eu
 . "$(dirname "$(readlink -f "$0")")/timing.sh"
@@ -82,15 +82,23 @@ bench '1,000 moves into new directories' 1000 below
 
 # ---- the same calls
 
-files=10000; second=
-if has strace && has python3; then
+again() { in_tree python3 "$top/bench/same-calls.py" ../calls; }
+least_again() { for _ in 1 2 3 4 5; do prepare; again; done | sort -n | head -1; }
+
+# same NAME FILES EDIT [b]
+same() {
+    local name=$1 edit=$3 own others
+    files=$2; second=${4:-}
     prepare
     in_tree "$program" list > "$work/before"
-    suffix < "$work/before" > "$work/after"
+    "$edit" < "$work/before" > "$work/after"
     in_tree strace -qq -s 100000000 -o ../calls -e trace=file,desc,process "$program" commit ../before ../after > /dev/null
-    again() { in_tree python3 "$top/bench/same-calls.py" ../calls; }
-    a=$(least in_tree "$program" commit ../before ../after)
-    least_said() { local best=; for _ in 1 2 3 4 5; do prepare; again; done | sort -n | head -1; }
-    b=$(least_said)
-    awk -v a="$a" -v b="$b" 'BEGIN { printf "10,000 suffixes: %s ms; the same calls by a program that does nothing else: %s ms (%.1f)\n", a, b, a / b }'
+    own=$(least in_tree "$program" commit ../before ../after)
+    others=$(least_again)
+    awk -v name="$name" -v a="$own" -v b="$others" 'BEGIN { printf "%s: %s ms; the same calls by a program that does nothing else: %s ms (%.1f)\n", name, a, b, a / b }'
+}
+if has strace && has python3; then
+    same '10,000 suffixes' 10000 suffix
+    same '1,000 swaps' 1000 swap b
+    same '1,000 moves into new directories' 1000 below
 fi

@@ -9,10 +9,10 @@ prepare() { :; }
 
 # The milliseconds that a command takes, the least of five runs.
 least() {
-    local best=999999999 start end
+    local best=0 start end
     for _ in 1 2 3 4 5; do
         prepare; start=$(date +%s%N); "$@" > /dev/null; end=$(date +%s%N)
-        [ $((end - start)) -ge "$best" ] || best=$((end - start))
+        [ "$best" != 0 ] && [ $((end - start)) -ge "$best" ] || best=$((end - start))
     done
     awk -v n="$best" 'BEGIN { printf "%.1f", n / 1000000 }'
 }

@@ -176,16 +176,16 @@ def buffers(program, case, folder):
     dirs = [path_text(path) for path in case.tree.paths() if case.tree.is_dir(path)]
     before = subprocess.run([program, "list", "-Al"] + dirs, cwd=folder, stdout=subprocess.PIPE, check=True).stdout.decode()
     edits = {change.source: change for change in case.changes}
-    after, above = [], ()
+    after, above, last = [], "", None
     for line in before.split("\n"):
-        if line.startswith("  ") and line.endswith(":") and not line.startswith("  ."):
-            above = tuple(line[2:-1].split("/"))
-        elif line == "  .:":
-            above = ()
+        # the head of a section is the first line, or stands behind an empty one
+        if last in ("dired 1", ""):
+            above = "" if line == "  .:" else line[2:-1]
+        last = line
         for path, change in edits.items():
             name = escape(path[-1], case.tree.kind(path) == "link")
             ending = " " + name + (" -> " + escape(case.tree.target(path)) if case.tree.kind(path) == "link" else "")
-            if path[:-1] == above and len(line) > 38 and line.endswith(ending):
+            if escape(path_text(path[:-1])) == above and len(line) > 38 and line.endswith(ending):
                 line = edited_line(case, line, ending, change)
                 break
         after.append(line)
