@@ -1,7 +1,8 @@
 #!/usr/bin/env python3
 """Draws predicates and compares the files that the program of text cases finds in a tree in memory with those that GNU `find` finds in a
 real tree of the same entries. Both have the same rules for what is drawn: sizes and counts of links are asked of files alone, modes not
-of links, since directories and links of the tree in memory have others; and each `[` is closed.
+of links, since directories and links of the tree in memory have others; each `[` is closed, and names are of ASCII alone, since
+GNU `find` has `?` and `[...]` match a byte of another character, too.
 
 drawn_finds.py PROGRAM COUNT SEED
 """
@@ -15,7 +16,7 @@ import time
 
 BATCH = 50
 DAY = 86400
-NAMES = ["a", "b", "ab", "ba", "abc", ".a", "a.o", "b.o", "a-b", "a b", "é", "éa", "[a]", "a*", "!", "]", "xyz", "A"]
+NAMES = ["a", "b", "ab", "ba", "abc", ".a", "a.o", "b.o", "a-b", "a b", "[a]", "a*", "!", "]", "xyz", "A"]
 MODES = [0o644, 0o600, 0o755, 0o777, 0o444, 0o4755, 0o2711, 0o1777, 0]
 SIZES = [0, 1, 2, 511, 512, 513, 1024, 1025, 3000]
 
