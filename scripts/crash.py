@@ -5,7 +5,7 @@ crash.py [PROGRAM] [--examples COUNT] [--only NAME] [--edits COUNT] [--lines COU
          [--mask MASK]
 
 For the first COUNT small examples of commits (all, unless given), or the one of this NAME, and for COUNT drawn edits (none, unless given; of at
-most LINES lines, 40 unless given), on real folders: the program is killed as each changing call begins, and each of them fails, of the examples with EIO
+most LINES lines, 50 unless given), on real folders: the program is killed as each changing call begins, and each of them fails, of the examples with EIO
 and with ENOSPC, of the drawn edits with one of them in turn; so does the `sync` of the programs that it starts. Each tree that stands then is recovered, and
 a copy of it with `--back`. Each of these recoveries is killed itself as a changing call begins: at every call of it (--every 1, unless given), of
 the drawn edits at each so many-th, the first of them drawn (--drawn-every 12, unless given); and what stands then is recovered and killed in the same way, until
@@ -425,7 +425,7 @@ def main():
     parser = argparse.ArgumentParser(add_help=False)
     built = os.path.join(os.path.dirname(os.path.abspath(__file__)), "..", "crates", "dired_cli", "out", "dired_cli")
     parser.add_argument("program", nargs="?", default=built)
-    for name, default in (("examples", 99), ("edits", 0), ("lines", 40), ("seed", 1), ("every", 1), ("drawn-every", 12), ("jobs", os.cpu_count() or 1)):
+    for name, default in (("examples", 99), ("edits", 0), ("lines", 50), ("seed", 1), ("every", 1), ("drawn-every", 12), ("jobs", os.cpu_count() or 1)):
         parser.add_argument("--" + name, type=int, default=default)
     parser.add_argument("--only", default="")
     parser.add_argument("--mask", type=lambda digits: int(digits, 8), default=0o22)
