@@ -15,7 +15,8 @@ use std::alloc::{AllocError, Global};
 
 /// What the words behind `commit` ask for: `[--all] BEFORE AFTER [CONFIRMED]...`.
 pub fn read_commit(alloc: Global, words: &[String]) -> Result<Command, WordsFault>
-    ensures { IsOrMemory memory (asked_by commit_app commit_by_rows (map string_bytes words.now)) result }
+    ensures { IsOrMemory memory
+        (asked_by commit_app commit_by_rows (map string_bytes words.now)) result }
 {
     let matches = matched(definition(alloc)?, words)?;
     commit_by(alloc, &matches)

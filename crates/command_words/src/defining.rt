@@ -23,7 +23,8 @@ pub fn with_flag<'a>(
     id: &'a str,
     letter: char,
 ) -> Result<Command<'a>, AllocError>
-    ensures { IfOk result (λ c. app_of c ≡ with_rule (app_of command.entry) (flag_rule id.now letter)) }
+    ensures { IfOk result (λ c. app_of c ≡
+        with_rule (app_of command.entry) (flag_rule id.now letter)) }
 {
     command.arg(Arg::new(alloc, id).short(letter).action(ArgAction::SetTrue))
 }

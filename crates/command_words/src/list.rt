@@ -16,7 +16,8 @@ use std::alloc::{AllocError, Global};
 
 /// What the words behind `list` ask for: `[-A] [-l] [-t] [-S] [-r] [DIR]...`.
 pub fn read_list(alloc: Global, words: &[String]) -> Result<Command, WordsFault>
-    ensures { IsOrMemory memory (asked_by list_app list_by_rows (map string_bytes words.now)) result }
+    ensures { IsOrMemory memory
+        (asked_by list_app list_by_rows (map string_bytes words.now)) result }
 {
     let matches = matched(definition(alloc)?, words)?;
     list_by(alloc, &matches)

@@ -15,7 +15,9 @@ pub fn matched<'a>(command: Command<'a>, words: &'a [String]) -> Result<ArgMatch
     requires simple { is_simple_and_free (app_of command) ≡ true }
     ensures rows { IfOk result (λ m. (fault_of (app_of command.entry) (map string_bytes words.now) ≡ [])
         × (rows_of (found_of m) ≡ matches_of (app_of command.entry) (map string_bytes words.now))) }
-    ensures refused { IfErr result (λ e. (e ≡ memory) ⊎ ((e ≡ Usage) × (fault_of (app_of command.entry) (map string_bytes words.now) ≢ []))) }
+    ensures refused { IfErr result
+        (λ e. (e ≡ memory) ⊎ ((e ≡ Usage) ×
+        (fault_of (app_of command.entry) (map string_bytes words.now) ≢ []))) }
 {
     match command.try_get_matches_from(words) {
         Ok(matches) => Ok(matches),
@@ -34,7 +36,8 @@ pub fn first_value<'a>(matches: &ArgMatches<'a>, id: &str) -> Option<&'a str>
 /// The values of an argument.
 #[tactic(auto, using(crate::proofs::WordLemmas::all_by_rows))]
 pub fn all_values<'m, 'a>(matches: &'m ArgMatches<'a>, id: &str) -> Option<&'m [&'a str]>
-    ensures { option_map (λ vs. map (λ v. v.now) vs.now) result ≡ all_of id.now (rows_of (found_of matches.now)) }
+    ensures { option_map (λ vs. map (λ v. v.now) vs.now) result ≡
+        all_of id.now (rows_of (found_of matches.now)) }
 {
     matches.get_raw(id)
 }

@@ -12,7 +12,8 @@ use std::alloc::{AllocError, Global};
 
 /// What the words behind `recover` ask for: `[--back]`.
 pub fn read_recover(alloc: Global, words: &[String]) -> Result<Command, WordsFault>
-    ensures { IsOrMemory memory (asked_by recover_app recover_by (map string_bytes words.now)) result }
+    ensures { IsOrMemory memory
+        (asked_by recover_app recover_by (map string_bytes words.now)) result }
 {
     let matches = matched(definition(alloc)?, words)?;
     Ok(Command::Recover {

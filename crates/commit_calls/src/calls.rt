@@ -14,8 +14,10 @@ use tree_core::{CallName, Tree};
 
 /// Makes a directory.
 pub fn make_dir<T: Tree>(tree: &mut T, path: &Path, mode: u16) -> Result<(), CallName>
-    requires can { T.Tells → CanDo (Change.MakeDir path.now mode) (current_tree (T.history tree.old)) }
-    ensures ran { T.Tells → Ran (Change.MakeDir path.now mode ∷ []) (T.history tree.old) (T.history tree.new) (T.before_failed tree.old) (T.before_failed tree.new) result }
+    requires can { T.Tells → CanDo (Change.MakeDir path.now mode)
+        (current_tree (T.history tree.old)) }
+    ensures ran { T.Tells → Ran (Change.MakeDir path.now mode ∷ []) (T.history tree.old)
+        (T.history tree.new) (T.before_failed tree.old) (T.before_failed tree.new) result }
     ensures cause { NamesFault (T.faults tree.old) (T.faults tree.new) result }
 {
     match tree.make_dir(path, mode) {
@@ -26,8 +28,10 @@ pub fn make_dir<T: Tree>(tree: &mut T, path: &Path, mode: u16) -> Result<(), Cal
 
 /// Makes a link.
 pub fn make_link<T: Tree>(tree: &mut T, path: &Path, target: &str) -> Result<(), CallName>
-    requires can { T.Tells → CanDo (Change.MakeLink path.now target.now) (current_tree (T.history tree.old)) }
-    ensures ran { T.Tells → Ran (Change.MakeLink path.now target.now ∷ []) (T.history tree.old) (T.history tree.new) (T.before_failed tree.old) (T.before_failed tree.new) result }
+    requires can { T.Tells → CanDo (Change.MakeLink path.now target.now)
+        (current_tree (T.history tree.old)) }
+    ensures ran { T.Tells → Ran (Change.MakeLink path.now target.now ∷ []) (T.history tree.old)
+        (T.history tree.new) (T.before_failed tree.old) (T.before_failed tree.new) result }
     ensures cause { NamesFault (T.faults tree.old) (T.faults tree.new) result }
 {
     match tree.make_link(path, target) {
@@ -38,8 +42,10 @@ pub fn make_link<T: Tree>(tree: &mut T, path: &Path, target: &str) -> Result<(),
 
 /// Gives a file another path.
 pub fn make_hard<T: Tree>(tree: &mut T, path: &Path, old: &Path) -> Result<(), CallName>
-    requires can { T.Tells → CanDo (Change.MakeHard path.now old.now) (current_tree (T.history tree.old)) }
-    ensures ran { T.Tells → Ran (Change.MakeHard path.now old.now ∷ []) (T.history tree.old) (T.history tree.new) (T.before_failed tree.old) (T.before_failed tree.new) result }
+    requires can { T.Tells → CanDo (Change.MakeHard path.now old.now)
+        (current_tree (T.history tree.old)) }
+    ensures ran { T.Tells → Ran (Change.MakeHard path.now old.now ∷ []) (T.history tree.old)
+        (T.history tree.new) (T.before_failed tree.old) (T.before_failed tree.new) result }
     ensures cause { NamesFault (T.faults tree.old) (T.faults tree.new) result }
 {
     match tree.make_hard(path, old) {
@@ -55,8 +61,10 @@ pub fn write_file<T: Tree>(
     bytes: &[u8],
     mode: u16,
 ) -> Result<(), CallName>
-    requires can { T.Tells → CanDo (Change.WriteFile path.now bytes.now mode) (current_tree (T.history tree.old)) }
-    ensures ran { T.Tells → Ran (Change.WriteFile path.now bytes.now mode ∷ []) (T.history tree.old) (T.history tree.new) (T.before_failed tree.old) (T.before_failed tree.new) result }
+    requires can { T.Tells → CanDo (Change.WriteFile path.now bytes.now mode)
+        (current_tree (T.history tree.old)) }
+    ensures ran { T.Tells → Ran (Change.WriteFile path.now bytes.now mode ∷ []) (T.history tree.old)
+        (T.history tree.new) (T.before_failed tree.old) (T.before_failed tree.new) result }
     ensures cause { NamesFault (T.faults tree.old) (T.faults tree.new) result }
 {
     match tree.write_file(path, bytes, mode) {
@@ -67,8 +75,10 @@ pub fn write_file<T: Tree>(
 
 /// Moves what stands at a path.
 pub fn rename<T: Tree>(tree: &mut T, from: &Path, to: &Path) -> Result<(), CallName>
-    requires can { T.Tells → CanDo (Change.Rename from.now to.now) (current_tree (T.history tree.old)) }
-    ensures ran { T.Tells → Ran (Change.Rename from.now to.now ∷ []) (T.history tree.old) (T.history tree.new) (T.before_failed tree.old) (T.before_failed tree.new) result }
+    requires can { T.Tells → CanDo (Change.Rename from.now to.now)
+        (current_tree (T.history tree.old)) }
+    ensures ran { T.Tells → Ran (Change.Rename from.now to.now ∷ []) (T.history tree.old)
+        (T.history tree.new) (T.before_failed tree.old) (T.before_failed tree.new) result }
     ensures cause { NamesFault (T.faults tree.old) (T.faults tree.new) result }
 {
     match tree.rename(from, to) {
@@ -79,8 +89,10 @@ pub fn rename<T: Tree>(tree: &mut T, from: &Path, to: &Path) -> Result<(), CallN
 
 /// Sets a mode.
 pub fn set_mode<T: Tree>(tree: &mut T, path: &Path, mode: u16) -> Result<(), CallName>
-    requires can { T.Tells → CanDo (Change.SetMode path.now mode) (current_tree (T.history tree.old)) }
-    ensures ran { T.Tells → Ran (Change.SetMode path.now mode ∷ []) (T.history tree.old) (T.history tree.new) (T.before_failed tree.old) (T.before_failed tree.new) result }
+    requires can { T.Tells → CanDo (Change.SetMode path.now mode)
+        (current_tree (T.history tree.old)) }
+    ensures ran { T.Tells → Ran (Change.SetMode path.now mode ∷ []) (T.history tree.old)
+        (T.history tree.new) (T.before_failed tree.old) (T.before_failed tree.new) result }
     ensures cause { NamesFault (T.faults tree.old) (T.faults tree.new) result }
 {
     match tree.set_mode(path, mode) {
@@ -92,7 +104,8 @@ pub fn set_mode<T: Tree>(tree: &mut T, path: &Path, mode: u16) -> Result<(), Cal
 /// Removes a file's path or a link.
 pub fn remove<T: Tree>(tree: &mut T, path: &Path) -> Result<(), CallName>
     requires can { T.Tells → CanDo (Change.Remove path.now) (current_tree (T.history tree.old)) }
-    ensures ran { T.Tells → Ran (Change.Remove path.now ∷ []) (T.history tree.old) (T.history tree.new) (T.before_failed tree.old) (T.before_failed tree.new) result }
+    ensures ran { T.Tells → Ran (Change.Remove path.now ∷ []) (T.history tree.old)
+        (T.history tree.new) (T.before_failed tree.old) (T.before_failed tree.new) result }
     ensures cause { NamesFault (T.faults tree.old) (T.faults tree.new) result }
 {
     match tree.remove(path) {
@@ -104,7 +117,8 @@ pub fn remove<T: Tree>(tree: &mut T, path: &Path) -> Result<(), CallName>
 /// Removes an empty directory.
 pub fn remove_dir<T: Tree>(tree: &mut T, path: &Path) -> Result<(), CallName>
     requires can { T.Tells → CanDo (Change.RemoveDir path.now) (current_tree (T.history tree.old)) }
-    ensures ran { T.Tells → Ran (Change.RemoveDir path.now ∷ []) (T.history tree.old) (T.history tree.new) (T.before_failed tree.old) (T.before_failed tree.new) result }
+    ensures ran { T.Tells → Ran (Change.RemoveDir path.now ∷ []) (T.history tree.old)
+        (T.history tree.new) (T.before_failed tree.old) (T.before_failed tree.new) result }
     ensures cause { NamesFault (T.faults tree.old) (T.faults tree.new) result }
 {
     match tree.remove_dir(path) {
@@ -115,7 +129,8 @@ pub fn remove_dir<T: Tree>(tree: &mut T, path: &Path) -> Result<(), CallName>
 
 /// Makes all changes durable.
 pub fn sync<T: Tree>(tree: &mut T) -> Result<(), CallName>
-    ensures ran { T.Tells → Ran (Change.Sync ∷ []) (T.history tree.old) (T.history tree.new) (T.before_failed tree.old) (T.before_failed tree.new) result }
+    ensures ran { T.Tells → Ran (Change.Sync ∷ []) (T.history tree.old) (T.history tree.new)
+        (T.before_failed tree.old) (T.before_failed tree.new) result }
     ensures cause { NamesFault (T.faults tree.old) (T.faults tree.new) result }
 {
     match tree.sync() {
@@ -127,7 +142,8 @@ pub fn sync<T: Tree>(tree: &mut T) -> Result<(), CallName>
 /// Does one step.
 pub fn do_step<T: Tree>(tree: &mut T, step: &Step) -> Result<(), CallName>
     requires can { T.Tells → CanDo (call_of step.now) (current_tree (T.history tree.old)) }
-    ensures ran { T.Tells → Ran (call_of step.now ∷ []) (T.history tree.old) (T.history tree.new) (T.before_failed tree.old) (T.before_failed tree.new) result }
+    ensures ran { T.Tells → Ran (call_of step.now ∷ []) (T.history tree.old) (T.history tree.new)
+        (T.before_failed tree.old) (T.before_failed tree.new) result }
     ensures cause { NamesFault (T.faults tree.old) (T.faults tree.new) result }
 {
     match step {
@@ -140,7 +156,8 @@ pub fn do_step<T: Tree>(tree: &mut T, step: &Step) -> Result<(), CallName>
 /// Undoes one step that was done.
 pub fn undo_step<T: Tree>(tree: &mut T, step: &Step) -> Result<(), CallName>
     requires can { T.Tells → CanDo (undo_of step.now) (current_tree (T.history tree.old)) }
-    ensures ran { T.Tells → Ran (undo_of step.now ∷ []) (T.history tree.old) (T.history tree.new) (T.before_failed tree.old) (T.before_failed tree.new) result }
+    ensures ran { T.Tells → Ran (undo_of step.now ∷ []) (T.history tree.old) (T.history tree.new)
+        (T.before_failed tree.old) (T.before_failed tree.new) result }
     ensures cause { NamesFault (T.faults tree.old) (T.faults tree.new) result }
 {
     match step {
@@ -152,8 +169,11 @@ pub fn undo_step<T: Tree>(tree: &mut T, step: &Step) -> Result<(), CallName>
 
 /// Moves what stands at a path, and makes that durable.
 pub fn rename_and_sync<T: Tree>(tree: &mut T, from: &Path, to: &Path) -> Result<(), CallName>
-    requires can { T.Tells → CanAll (Change.Rename from.now to.now ∷ Change.Sync ∷ []) (T.history tree.old) }
-    ensures ran { T.Tells → Ran (Change.Rename from.now to.now ∷ Change.Sync ∷ []) (T.history tree.old) (T.history tree.new) (T.before_failed tree.old) (T.before_failed tree.new) result }
+    requires can { T.Tells → CanAll (Change.Rename from.now to.now ∷ Change.Sync ∷ [])
+        (T.history tree.old) }
+    ensures ran { T.Tells → Ran (Change.Rename from.now to.now ∷ Change.Sync ∷ [])
+        (T.history tree.old) (T.history tree.new) (T.before_failed tree.old)
+        (T.before_failed tree.new) result }
     ensures cause { NamesFault (T.faults tree.old) (T.faults tree.new) result }
 {
     rename(tree, from, to)?;
@@ -163,7 +183,8 @@ pub fn rename_and_sync<T: Tree>(tree: &mut T, from: &Path, to: &Path) -> Result<
 /// Makes durable what was done, moves what stands at a path, and makes that durable.
 pub fn sync_and_rename<T: Tree>(tree: &mut T, from: &Path, to: &Path) -> Result<(), CallName>
     requires can { T.Tells → CanAll (synced_rename_calls from.now to.now) (T.history tree.old) }
-    ensures ran { T.Tells → Ran (synced_rename_calls from.now to.now) (T.history tree.old) (T.history tree.new) (T.before_failed tree.old) (T.before_failed tree.new) result }
+    ensures ran { T.Tells → Ran (synced_rename_calls from.now to.now) (T.history tree.old)
+        (T.history tree.new) (T.before_failed tree.old) (T.before_failed tree.new) result }
     ensures cause { NamesFault (T.faults tree.old) (T.faults tree.new) result }
 {
     sync(tree)?;

@@ -17,8 +17,10 @@ use tree_core::{CallName, Fresh, Tree};
 
 // Removes what was put aside at a path.
 fn discard<T: Tree>(tree: &mut T, path: &Path, is_dir: bool) -> Result<(), CallName>
-    requires can { T.Tells → CanDo (removal_by is_dir path.now) (current_tree (T.history tree.old)) }
-    ensures ran { T.Tells → Ran (removal_by is_dir path.now ∷ []) (T.history tree.old) (T.history tree.new) (T.before_failed tree.old) (T.before_failed tree.new) result }
+    requires can { T.Tells → CanDo (removal_by is_dir path.now)
+        (current_tree (T.history tree.old)) }
+    ensures ran { T.Tells → Ran (removal_by is_dir path.now ∷ []) (T.history tree.old)
+        (T.history tree.new) (T.before_failed tree.old) (T.before_failed tree.new) result }
     ensures cause { NamesFault (T.faults tree.old) (T.faults tree.new) result }
 {
     if is_dir {
@@ -32,7 +34,8 @@ fn discard<T: Tree>(tree: &mut T, path: &Path, is_dir: bool) -> Result<(), CallN
 fn discard_all<T: Tree>(tree: &mut T, held: &[Held], paths: &[Path]) -> Result<(), CallName>
     requires paths { paths.now ≡ held_entry_paths held.now }
     requires can { T.Tells → CanAll (removals_by (held_items held.now)) (T.history tree.old) }
-    ensures ran { T.Tells → Ran (removals_by (held_items held.now)) (T.history tree.old) (T.history tree.new) (T.before_failed tree.old) (T.before_failed tree.new) result }
+    ensures ran { T.Tells → Ran (removals_by (held_items held.now)) (T.history tree.old)
+        (T.history tree.new) (T.before_failed tree.old) (T.before_failed tree.new) result }
     ensures cause { NamesFault (T.faults tree.old) (T.faults tree.new) result }
 {
     for (k, one) in held.iter().enumerate() {
@@ -44,7 +47,8 @@ fn discard_all<T: Tree>(tree: &mut T, held: &[Held], paths: &[Path]) -> Result<(
 // Removes these files and links, in order.
 pub(crate) fn remove_all<T: Tree>(tree: &mut T, paths: &[Path]) -> Result<(), CallName>
     requires can { T.Tells → CanAll (remove_calls paths.now) (T.history tree.old) }
-    ensures ran { T.Tells → Ran (remove_calls paths.now) (T.history tree.old) (T.history tree.new) (T.before_failed tree.old) (T.before_failed tree.new) result }
+    ensures ran { T.Tells → Ran (remove_calls paths.now) (T.history tree.old) (T.history tree.new)
+        (T.before_failed tree.old) (T.before_failed tree.new) result }
     ensures cause { NamesFault (T.faults tree.old) (T.faults tree.new) result }
 {
     for path in paths {
@@ -60,8 +64,11 @@ fn close_up<T: Tree>(
     journal: &Path,
     directory: &Path,
 ) -> Result<(), CallName>
-    requires can { T.Tells → CanAll (close_up_calls marker.now journal.now directory.now) (T.history tree.old) }
-    ensures ran { T.Tells → Ran (close_up_calls marker.now journal.now directory.now) (T.history tree.old) (T.history tree.new) (T.before_failed tree.old) (T.before_failed tree.new) result }
+    requires can { T.Tells → CanAll (close_up_calls marker.now journal.now directory.now)
+        (T.history tree.old) }
+    ensures ran { T.Tells → Ran (close_up_calls marker.now journal.now directory.now)
+        (T.history tree.old) (T.history tree.new) (T.before_failed tree.old)
+        (T.before_failed tree.new) result }
     ensures cause { NamesFault (T.faults tree.old) (T.faults tree.new) result }
 {
     remove(tree, marker)?;
@@ -85,7 +92,8 @@ pub fn clean<T: Tree>(
     requires held_paths { held_paths.now ≡ held_entry_paths held.now }
     requires marker { marker.now ≡ staged (at_marker steps) }
     requires can { T.Tells → CanAll (cleaning_calls held.now steps) (T.history tree.old) }
-    ensures ran { T.Tells → Ran (cleaning_calls held.now steps) (T.history tree.old) (T.history tree.new) (T.before_failed tree.old) (T.before_failed tree.new) result }
+    ensures ran { T.Tells → Ran (cleaning_calls held.now steps) (T.history tree.old)
+        (T.history tree.new) (T.before_failed tree.old) (T.before_failed tree.new) result }
     ensures cause { NamesFault (T.faults tree.old) (T.faults tree.new) result }
 {
     discard_all(tree, held, held_paths)?;
@@ -105,7 +113,8 @@ pub fn clear<T: Tree>(
     requires fresh_paths { fresh_paths.now ≡ fresh_entry_paths (length fresh.now) }
     requires marker { marker.now ≡ staged (back_marker 0) }
     requires can { T.Tells → CanAll (clearing_calls fresh.now) (T.history tree.old) }
-    ensures ran { T.Tells → Ran (clearing_calls fresh.now) (T.history tree.old) (T.history tree.new) (T.before_failed tree.old) (T.before_failed tree.new) result }
+    ensures ran { T.Tells → Ran (clearing_calls fresh.now) (T.history tree.old) (T.history tree.new)
+        (T.before_failed tree.old) (T.before_failed tree.new) result }
     ensures cause { NamesFault (T.faults tree.old) (T.faults tree.new) result }
 {
     remove_all(tree, fresh_paths)?;
@@ -124,7 +133,8 @@ pub fn end_back<T: Tree>(
     requires fresh_paths { fresh_paths.now ≡ fresh_entry_paths (length fresh.now) }
     requires marker { marker.now ≡ staged (back_marker 0) }
     requires can { T.Tells → CanAll (end_calls fresh.now) (T.history tree.old) }
-    ensures ran { T.Tells → Ran (end_calls fresh.now) (T.history tree.old) (T.history tree.new) (T.before_failed tree.old) (T.before_failed tree.new) result }
+    ensures ran { T.Tells → Ran (end_calls fresh.now) (T.history tree.old) (T.history tree.new)
+        (T.before_failed tree.old) (T.before_failed tree.new) result }
     ensures cause { NamesFault (T.faults tree.old) (T.faults tree.new) result }
 {
     rename_and_sync(tree, &paths.plan, &paths.undone)?;

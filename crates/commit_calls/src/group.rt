@@ -16,7 +16,8 @@ use tree_core::{CallName, Tree};
 // Does these steps, one after another.
 fn do_all<T: Tree>(tree: &mut T, steps: &[Step]) -> Result<(), CallName>
     requires can { T.Tells → CanAll (do_calls steps.now) (T.history tree.old) }
-    ensures ran { T.Tells → Ran (do_calls steps.now) (T.history tree.old) (T.history tree.new) (T.before_failed tree.old) (T.before_failed tree.new) result }
+    ensures ran { T.Tells → Ran (do_calls steps.now) (T.history tree.old) (T.history tree.new)
+        (T.before_failed tree.old) (T.before_failed tree.new) result }
     ensures cause { NamesFault (T.faults tree.old) (T.faults tree.new) result }
 {
     for step in steps {
@@ -28,7 +29,8 @@ fn do_all<T: Tree>(tree: &mut T, steps: &[Step]) -> Result<(), CallName>
 // Undoes these steps, the last one first.
 fn undo_all<T: Tree>(tree: &mut T, steps: &[Step]) -> Result<(), CallName>
     requires can { T.Tells → CanAll (undo_calls steps.now) (T.history tree.old) }
-    ensures ran { T.Tells → Ran (undo_calls steps.now) (T.history tree.old) (T.history tree.new) (T.before_failed tree.old) (T.before_failed tree.new) result }
+    ensures ran { T.Tells → Ran (undo_calls steps.now) (T.history tree.old) (T.history tree.new)
+        (T.before_failed tree.old) (T.before_failed tree.new) result }
     ensures cause { NamesFault (T.faults tree.old) (T.faults tree.new) result }
 {
     for k in (0..steps.len()).rev() {
@@ -44,8 +46,10 @@ pub fn do_group<T: Tree>(
     marker: &Path,
     next: &Path,
 ) -> Result<(), CallName>
-    requires can { T.Tells → CanAll (marked_calls steps.now marker.now next.now) (T.history tree.old) }
-    ensures ran { T.Tells → Ran (marked_calls steps.now marker.now next.now) (T.history tree.old) (T.history tree.new) (T.before_failed tree.old) (T.before_failed tree.new) result }
+    requires can { T.Tells → CanAll (marked_calls steps.now marker.now next.now)
+        (T.history tree.old) }
+    ensures ran { T.Tells → Ran (marked_calls steps.now marker.now next.now) (T.history tree.old)
+        (T.history tree.new) (T.before_failed tree.old) (T.before_failed tree.new) result }
     ensures cause { NamesFault (T.faults tree.old) (T.faults tree.new) result }
 {
     do_all(tree, steps)?;
@@ -59,8 +63,10 @@ pub fn undo_group<T: Tree>(
     marker: &Path,
     next: &Path,
 ) -> Result<(), CallName>
-    requires can { T.Tells → CanAll (unmarked_calls steps.now marker.now next.now) (T.history tree.old) }
-    ensures ran { T.Tells → Ran (unmarked_calls steps.now marker.now next.now) (T.history tree.old) (T.history tree.new) (T.before_failed tree.old) (T.before_failed tree.new) result }
+    requires can { T.Tells → CanAll (unmarked_calls steps.now marker.now next.now)
+        (T.history tree.old) }
+    ensures ran { T.Tells → Ran (unmarked_calls steps.now marker.now next.now) (T.history tree.old)
+        (T.history tree.new) (T.before_failed tree.old) (T.before_failed tree.new) result }
     ensures cause { NamesFault (T.faults tree.old) (T.faults tree.new) result }
 {
     undo_all(tree, steps)?;
@@ -91,9 +97,12 @@ pub fn do_groups<T: Tree>(
     requires can { T.Tells → CanAll (calls_from 0 (groups steps.now)) (T.history tree.old) }
     ensures done { T.Tells → IfOk result (λ _. (T.history tree.new ≡ then_all (T.history tree.old) (calls_from 0 (groups steps.now)))
         × (T.before_failed tree.new ≡ T.before_failed tree.old)) }
-    ensures stopped { T.Tells → IfErr result (λ s. StoppedIn (groups steps.now) s (T.history tree.old) (T.history tree.new) (T.before_failed tree.new)) }
+    ensures stopped { T.Tells → IfErr result
+        (λ s. StoppedIn (groups steps.now) s (T.history tree.old) (T.history tree.new)
+        (T.before_failed tree.new)) }
     ensures within { IfErr result (λ s. s.group < length (groups steps.now)) }
-    ensures cause { MatchResult result (λ _. T.faults tree.new ≡ T.faults tree.old) (λ s. T.faults tree.new ≡ with_fault s.first (T.faults tree.old)) }
+    ensures cause { MatchResult result (λ _. T.faults tree.new ≡ T.faults tree.old)
+        (λ s. T.faults tree.new ≡ with_fault s.first (T.faults tree.old)) }
 {
     let mut from: usize = 0;
     for k in 0..ends.len() {

@@ -17,8 +17,10 @@ use tree_core::{CallName, Fresh, Tree};
 
 // Makes one fresh entry.
 fn make_fresh<T: Tree>(tree: &mut T, path: &Path, what: &Fresh) -> Result<(), CallName>
-    requires can { T.Tells → CanDo (fresh_call path.now what.now) (current_tree (T.history tree.old)) }
-    ensures ran { T.Tells → Ran (fresh_call path.now what.now ∷ []) (T.history tree.old) (T.history tree.new) (T.before_failed tree.old) (T.before_failed tree.new) result }
+    requires can { T.Tells → CanDo (fresh_call path.now what.now)
+        (current_tree (T.history tree.old)) }
+    ensures ran { T.Tells → Ran (fresh_call path.now what.now ∷ []) (T.history tree.old)
+        (T.history tree.new) (T.before_failed tree.old) (T.before_failed tree.new) result }
     ensures cause { NamesFault (T.faults tree.old) (T.faults tree.new) result }
 {
     match what {
@@ -32,7 +34,8 @@ fn make_fresh<T: Tree>(tree: &mut T, path: &Path, what: &Fresh) -> Result<(), Ca
 fn make_entries<T: Tree>(tree: &mut T, fresh: &[Fresh], paths: &[Path]) -> Result<(), CallName>
     requires paths { paths.now ≡ fresh_entry_paths (length fresh.now) }
     requires can { T.Tells → CanAll (fresh_calls 0 fresh.now) (T.history tree.old) }
-    ensures ran { T.Tells → Ran (fresh_calls 0 fresh.now) (T.history tree.old) (T.history tree.new) (T.before_failed tree.old) (T.before_failed tree.new) result }
+    ensures ran { T.Tells → Ran (fresh_calls 0 fresh.now) (T.history tree.old) (T.history tree.new)
+        (T.before_failed tree.old) (T.before_failed tree.new) result }
     ensures cause { NamesFault (T.faults tree.old) (T.faults tree.new) result }
 {
     for (k, what) in fresh.iter().enumerate() {
@@ -50,8 +53,10 @@ fn open<T: Tree>(
     marker: &Path,
 ) -> Result<(), CallName>
     requires paths { fresh_paths.now ≡ fresh_entry_paths (length fresh.now) }
-    requires can { T.Tells → CanAll (open_calls directory.now marker.now fresh.now) (T.history tree.old) }
-    ensures ran { T.Tells → Ran (open_calls directory.now marker.now fresh.now) (T.history tree.old) (T.history tree.new) (T.before_failed tree.old) (T.before_failed tree.new) result }
+    requires can { T.Tells → CanAll (open_calls directory.now marker.now fresh.now)
+        (T.history tree.old) }
+    ensures ran { T.Tells → Ran (open_calls directory.now marker.now fresh.now) (T.history tree.old)
+        (T.history tree.new) (T.before_failed tree.old) (T.before_failed tree.new) result }
     ensures cause { NamesFault (T.faults tree.old) (T.faults tree.new) result }
 {
     make_dir(tree, directory, 0o700)?;
@@ -72,7 +77,8 @@ pub fn fill<T: Tree>(
     requires fresh_paths { fresh_paths.now ≡ fresh_entry_paths (length fresh.now) }
     requires marker { marker.now ≡ staged (at_marker 0) }
     requires can { T.Tells → CanAll (stage_calls fresh.now journal.now) (T.history tree.old) }
-    ensures ran { T.Tells → Ran (stage_calls fresh.now journal.now) (T.history tree.old) (T.history tree.new) (T.before_failed tree.old) (T.before_failed tree.new) result }
+    ensures ran { T.Tells → Ran (stage_calls fresh.now journal.now) (T.history tree.old)
+        (T.history tree.new) (T.before_failed tree.old) (T.before_failed tree.new) result }
     ensures cause { NamesFault (T.faults tree.old) (T.faults tree.new) result }
 {
     open(tree, fresh, &paths.staging, fresh_paths, marker)?;
@@ -83,7 +89,8 @@ pub fn fill<T: Tree>(
 pub fn publish<T: Tree>(tree: &mut T, paths: &StagingPaths) -> Result<(), CallName>
     requires paths { ArePaths paths.now }
     requires can { T.Tells → CanAll (Change.Sync ∷ plan_calls) (T.history tree.old) }
-    ensures ran { T.Tells → Ran (Change.Sync ∷ plan_calls) (T.history tree.old) (T.history tree.new) (T.before_failed tree.old) (T.before_failed tree.new) result }
+    ensures ran { T.Tells → Ran (Change.Sync ∷ plan_calls) (T.history tree.old) (T.history tree.new)
+        (T.before_failed tree.old) (T.before_failed tree.new) result }
     ensures cause { NamesFault (T.faults tree.old) (T.faults tree.new) result }
 {
     sync_and_rename(tree, &paths.new_journal, &paths.plan)
@@ -102,7 +109,8 @@ pub fn stage<T: Tree>(
     requires fresh_paths { fresh_paths.now ≡ fresh_entry_paths (length fresh.now) }
     requires marker { marker.now ≡ staged (at_marker 0) }
     requires can { T.Tells → CanAll (staging_calls fresh.now journal.now) (T.history tree.old) }
-    ensures ran { T.Tells → Ran (staging_calls fresh.now journal.now) (T.history tree.old) (T.history tree.new) (T.before_failed tree.old) (T.before_failed tree.new) result }
+    ensures ran { T.Tells → Ran (staging_calls fresh.now journal.now) (T.history tree.old)
+        (T.history tree.new) (T.before_failed tree.old) (T.before_failed tree.new) result }
     ensures cause { NamesFault (T.faults tree.old) (T.faults tree.new) result }
 {
     fill(tree, fresh, journal, paths, fresh_paths, marker)?;

@@ -28,7 +28,8 @@ pub(crate) fn read_path<'a>(
     base: &[u8],
     bytes: &'a [u8],
 ) -> Result<PathRead<'a>, Refusal>
-    ensures { Gives (λ x. (x.path, x.text.items, x.rest.now)) result (path_at version base.now bytes.now) }
+    ensures { Gives (λ x. (x.path, x.text.items, x.rest.now)) result
+        (path_at version base.now bytes.now) }
 {
     let (text, rest) = read_text(alloc, version, base, bytes)?;
     let path = path_of(alloc, &text)?;
@@ -105,7 +106,8 @@ fn path_of(alloc: Global, text: &[u8]) -> Result<Path, Refusal>
 
 // The bytes before the first slash and the bytes behind it, or None where there is none.
 fn split_at_slash(bytes: &[u8]) -> Option<(&[u8], &[u8])>
-    ensures { MatchOption result (All (λ b. b ≢ slash) bytes.now) (λ x. (bytes.now ≡ x.0.now ++ slash ∷ x.1.now) × (All (λ b. b ≢ slash) x.0.now)) }
+    ensures { MatchOption result (All (λ b. b ≢ slash) bytes.now)
+        (λ x. (bytes.now ≡ x.0.now ++ slash ∷ x.1.now) × (All (λ b. b ≢ slash) x.0.now)) }
 {
     let at = bytes.iter().position(|b| *b == b'/')?;
     Some((&bytes[..at], &bytes[at + 1..]))

@@ -27,7 +27,8 @@ pub(crate) fn read_next<'a>(
     left: usize,
     bytes: &'a [u8],
 ) -> Result<StepRead<'a>, Refusal>
-    ensures { Gives (λ x. (x.step, x.first.items, x.rest.now)) result (next_at version base.now left bytes.now) }
+    ensures { Gives (λ x. (x.step, x.first.items, x.rest.now)) result
+        (next_at version base.now left bytes.now) }
 {
     let read = read_step(alloc, version, base, bytes)?;
     if !is_lawful(&read.step) || !fits(version, left, read.step.path_bytes()) {
@@ -53,7 +54,8 @@ fn read_step<'a>(
     base: &[u8],
     bytes: &'a [u8],
 ) -> Result<StepRead<'a>, Refusal>
-    ensures { Gives (λ x. (x.step, x.first.items, x.rest.now)) result (step_at version base.now bytes.now) }
+    ensures { Gives (λ x. (x.step, x.first.items, x.rest.now)) result
+        (step_at version base.now bytes.now) }
 {
     match bytes {
         [b'D', rest @ ..] => read_make_dir(alloc, version, base, rest),
@@ -70,7 +72,8 @@ fn read_make_dir<'a>(
     base: &[u8],
     bytes: &'a [u8],
 ) -> Result<StepRead<'a>, Refusal>
-    ensures { Gives (λ x. (x.step, x.first.items, x.rest.now)) result (make_dir_at version base.now bytes.now) }
+    ensures { Gives (λ x. (x.step, x.first.items, x.rest.now)) result
+        (make_dir_at version base.now bytes.now) }
 {
     let read = read_path(alloc, version, base, bytes)?;
     Ok(StepRead {
@@ -88,7 +91,8 @@ fn read_rename<'a>(
     base: &[u8],
     bytes: &'a [u8],
 ) -> Result<StepRead<'a>, Refusal>
-    ensures { Gives (λ x. (x.step, x.first.items, x.rest.now)) result (rename_at version base.now bytes.now) }
+    ensures { Gives (λ x. (x.step, x.first.items, x.rest.now)) result
+        (rename_at version base.now bytes.now) }
 {
     let from = read_path(alloc, version, base, bytes)?;
     let to = read_path(alloc, version, &from.text, from.rest)?;
@@ -106,7 +110,8 @@ fn read_mode<'a>(
     base: &[u8],
     bytes: &'a [u8],
 ) -> Result<StepRead<'a>, Refusal>
-    ensures { Gives (λ x. (x.step, x.first.items, x.rest.now)) result (mode_at version base.now bytes.now) }
+    ensures { Gives (λ x. (x.step, x.first.items, x.rest.now)) result
+        (mode_at version base.now bytes.now) }
 {
     let read = read_path(alloc, version, base, bytes)?;
     let (old, rest) = read_two(read.rest)?;

@@ -65,7 +65,8 @@ impl Board {
         ensures sound { OnOk result (IsSound self.new) }
         ensures turns { OnOk result (HaveTurns self.new []) }
         ensures none { OnOk result (self.new.queue.items ≡ []) }
-        ensures run { OnOk result (IsRun self.old.changes.items self.new.changes.items steps.old.items steps.new.items) }
+        ensures run { OnOk result
+            (IsRun self.old.changes.items self.new.changes.items steps.old.items steps.new.items) }
     {
         while !self.queue.is_empty() {
             let queued = mem::replace(&mut self.queue, Vec::new(alloc));
@@ -94,7 +95,9 @@ impl Board {
         requires waits { (p : Names) × IsAtSource self.old.changes.items i p }
         ensures sound { OnOk result (IsSound self.new) }
         ensures turns { OnOk result (HaveTurns self.new []) }
-        ensures step { IfOk result (IsPutAway self.old.changes.items i (staged (temporary number)) self.new.changes.items) }
+        ensures step { IfOk result
+            (IsPutAway self.old.changes.items i
+            (staged (temporary number)) self.new.changes.items) }
     {
         drop_put_away(&mut self.keepers, &self.changes[i].row);
         let step = put_away(alloc, &mut self.changes, i, number)?;
@@ -108,7 +111,8 @@ impl Board {
         requires within { i < length self.old.changes.items }
         requires sound { IsSound self.old }
         ensures sound { OnOk result (IsSound self.new) }
-        ensures turns { OnOk result ((rest : List ℕ) → HaveTurns self.old (i ∷ rest) → HaveTurns self.new rest) }
+        ensures turns { OnOk result ((rest : List ℕ) → HaveTurns self.old (i ∷ rest) →
+            HaveTurns self.new rest) }
         ensures settled { IfOk result (IsSettled self.old i self.new) }
     {
         match look_at(&self.changes, &self.keepers, i) {
@@ -162,7 +166,8 @@ fn note(awaiting: &mut Vec<Vec<usize>>, j: usize, i: usize) -> Result<(), Memory
 // Queues those in the list of a change.
 fn release(awaiting: &mut Vec<Vec<usize>>, i: usize, queue: &mut Vec<usize>) -> Result<(), Memory>
     requires { i < length awaiting.old.items }
-    ensures { OnOk result (IsReleased awaiting.old.items i queue.old.items awaiting.new.items queue.new.items) }
+    ensures { OnOk result
+        (IsReleased awaiting.old.items i queue.old.items awaiting.new.items queue.new.items) }
 {
     queue.append(&mut awaiting[i])?;
     Ok(())

@@ -102,7 +102,8 @@ pub fn put_away(
 ) -> Result<Step, Memory>
     requires within { i < length changes.old.items }
     requires waits { WaitsAtSource changes.old.items i }
-    ensures { IfOk result (IsPutAway changes.old.items i (staged (temporary number)) changes.new.items) }
+    ensures { IfOk result
+        (IsPutAway changes.old.items i (staged (temporary number)) changes.new.items) }
 {
     let spot = entry_path(alloc, Entry::Temporary, number)?;
     let to_spot = spot.copy()?;

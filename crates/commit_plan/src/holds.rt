@@ -42,7 +42,8 @@ fn add_victim<'a>(
 
 // Adds the source of a row that is given up.
 fn add_given_up(held: &mut Vec<Path>, row: &Row) -> Result<(), Memory>
-    ensures { OnOk result (held.new.items ≡ held.old.items ++ (if is_given_up_row row.now then listed row.now.source else [])) }
+    ensures { OnOk result (held.new.items ≡ held.old.items
+        ++ (if is_given_up_row row.now then listed row.now.source else [])) }
 {
     match &row.source {
         Some(source) if row.retargets || row.removes => {

@@ -31,7 +31,9 @@ pub fn keepers_of(alloc: Global, changes: &[Change]) -> Result<Keepers, Memory>
 
 // Notes a change, if it keeps anything.
 fn note_keeper(keepers: &mut Keepers, i: usize, change: &Change) -> Result<(), Memory>
-    ensures { OnOk result ((p : Names) → get path_cmp keepers.new p ≡ (if keeps_above change.now.row change.now.stand && is_from change.now.row.source p then Some i else get path_cmp keepers.old p)) }
+    ensures { OnOk result ((p : Names) → get path_cmp keepers.new p ≡
+        (if keeps_above change.now.row change.now.stand && is_from change.now.row.source p
+        then Some i else get path_cmp keepers.old p)) }
 {
     if let Some(source) = &change.row.source {
         if keeps(change) {
@@ -43,7 +45,9 @@ fn note_keeper(keepers: &mut Keepers, i: usize, change: &Change) -> Result<(), M
 
 /// A change that departs keeps nothing any more.
 pub fn drop_departing(keepers: &mut Keepers, change: &Change)
-    ensures { (p : Names) → get path_cmp keepers.new p ≡ (if keeps_above change.now.row change.now.stand && is_from change.now.row.source p then None else get path_cmp keepers.old p) }
+    ensures { (p : Names) → get path_cmp keepers.new p ≡
+        (if keeps_above change.now.row change.now.stand && is_from change.now.row.source p then None
+        else get path_cmp keepers.old p) }
 {
     if let Some(source) = &change.row.source {
         if keeps(change) {
@@ -54,7 +58,9 @@ pub fn drop_departing(keepers: &mut Keepers, change: &Change)
 
 /// A change that is put away keeps what is above it only if it is to be written in its directory.
 pub fn drop_put_away(keepers: &mut Keepers, row: &Row)
-    ensures { (p : Names) → get path_cmp keepers.new p ≡ (if not (is_in_place_row row.now) && is_from row.now.source p then None else get path_cmp keepers.old p) }
+    ensures { (p : Names) → get path_cmp keepers.new p ≡
+        (if not (is_in_place_row row.now) && is_from row.now.source p then None
+        else get path_cmp keepers.old p) }
 {
     if let Some(source) = &row.source {
         if !is_in_place(row) {

@@ -12,7 +12,8 @@ use std::alloc::Global;
 
 /// What is printed of a status and of the bytes that were written.
 pub fn report_text(alloc: Global, status: &Status, written: &[u8]) -> Result<String, Memory>
-    ensures { IfOk result (λ t. string_bytes t ≡ report_text_of (number_of status.now) written.now) }
+    ensures { IfOk result (λ t. string_bytes t ≡
+        report_text_of (number_of status.now) written.now) }
 {
     let number = status.number();
     let mut text = format!(in alloc; "status {number}\n|")?;
@@ -35,7 +36,8 @@ pub fn push_held(text: &mut String, status: &Status) -> Result<(), Memory>
 
 // Prints the bytes of the output, in which each newline begins a line behind `|`.
 fn push_lines(text: &mut String, bytes: &[u8]) -> Result<(), Memory>
-    ensures { OnOk result (string_bytes text.new ≡ string_bytes text.old ++ flat_map line_byte_of bytes.now) }
+    ensures { OnOk result (string_bytes text.new ≡ string_bytes text.old
+        ++ flat_map line_byte_of bytes.now) }
 {
     for byte in bytes {
         push_line_byte(text, *byte)?;

@@ -65,7 +65,8 @@ pub fn escapes_come_back(text: &str, in_link: bool)
 
 // Pushes a character as it is written on a line.
 fn push_escaped(line: &mut String, c: char, in_link: bool) -> Result<(), Memory>
-    ensures { OnOk result (string_bytes line.new ≡ string_bytes line.old ++ flat_map (spelled in_link) (encode_utf8 c)) }
+    ensures { OnOk result (string_bytes line.new ≡ string_bytes line.old
+        ++ flat_map (spelled in_link) (encode_utf8 c)) }
 {
     match c {
         '\\' => line.push_str("\\\\")?,
@@ -134,7 +135,8 @@ fn push_byte(plain: &mut String, byte: u8) -> Result<(), EscapeError>
 
 // The byte that is spelled by a backslash and the head of this text, and the text behind the spelling.
 fn read_escape(text: &str) -> Option<(u8, &str)>
-    ensures read { MatchOption result (behind_backslash text.now ≡ None) (λ x. Spells text.now x.0 x.1.now) }
+    ensures read { MatchOption result (behind_backslash text.now ≡ None)
+        (λ x. Spells text.now x.0 x.1.now) }
     ensures ascii { IfSome result (λ x. x.0 < 128) }
 {
     match text.as_bytes() {

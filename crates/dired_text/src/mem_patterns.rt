@@ -38,8 +38,10 @@ impl Patterns for MemPatterns {
 
     fn build(&mut self, alloc: Global, text: &str) -> Result<Regex, PatternsError>
         ensures read { IfOk result (IsPatternOf text.now) }
-        ensures count { CountsRefusals result (patterns_refusals self.old) (patterns_refusals self.new) }
-        ensures may_fail { result ≡ Err PatternsError.Refused → PatternsMayFail self.old self.new text.now }
+        ensures count { CountsRefusals result (patterns_refusals self.old)
+            (patterns_refusals self.new) }
+        ensures may_fail { result ≡ Err PatternsError.Refused →
+            PatternsMayFail self.old self.new text.now }
         ensures obeys { PatternsObey self.old self.new result }
     {
         let number = self.calls;

@@ -43,7 +43,8 @@ impl MemShelf {
     fn note_failure(&mut self, name: &str) -> Result<(), Memory>
         ensures files { shelf_files self.new ≡ shelf_files self.old }
         ensures failed { OnOk result (shelf_faults self.new ≡ raised (shelf_faults self.old)) }
-        ensures schedule { (shelf_schedule self.new ≡ shelf_schedule self.old) × (shelf_reads self.new ≡ shelf_reads self.old) }
+        ensures schedule { (shelf_schedule self.new ≡ shelf_schedule self.old) ×
+            (shelf_reads self.new ≡ shelf_reads self.old) }
         ensures named { OnOk result (shelf_last_failed self.new ≡ Some name.now) }
         ensures same { OnErr result (self.new ≡ self.old) }
     {
@@ -68,7 +69,8 @@ impl Shelf for MemShelf {
         ensures limit { IfOk result (λ bytes. length bytes ≤ limit) }
         ensures read { ReadsAs (shelf_files self.old name.now) limit result }
         ensures files { shelf_files self.new ≡ shelf_files self.old }
-        ensures last_failed { shelf_last_failed self.new ≡ last_after result name.now (shelf_last_failed self.old) }
+        ensures last_failed { shelf_last_failed self.new ≡
+            last_after result name.now (shelf_last_failed self.old) }
         ensures count { shelf_faults self.new ≡ count_after result (shelf_faults self.old) }
         ensures may_fail { result ≡ Err ShelfEnd.Failed → ShelfMayFail self.old self.new }
         ensures obeys { ShelfObeys self.old self.new result }

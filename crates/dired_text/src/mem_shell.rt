@@ -57,7 +57,8 @@ impl MemShell {
 
     // Keeps a text.
     fn keep(&mut self, text: &str) -> Result<(), Memory>
-        ensures kept { OnOk result (shell_runs self.new ≡ shell_runs self.old ++ (text.now, Some self.old.exit) ∷ []) }
+        ensures kept { OnOk result (shell_runs self.new ≡ shell_runs self.old
+            ++ (text.now, Some self.old.exit) ∷ []) }
         ensures same { OnErr result (shell_runs self.new ≡ shell_runs self.old) }
         ensures rest { self.new ≡ record self.old { texts = self.new.texts } }
     {

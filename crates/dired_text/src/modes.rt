@@ -60,7 +60,8 @@ fn letter(mode: u16, bit: u16, shown: u8) -> u8
 
 // The third letter of a class.
 fn third_letter(mode: u16, class: &Class) -> u8
-    ensures { result ≡ third_letter_of mode class.now.execute class.now.special class.now.small class.now.capital }
+    ensures { result ≡ third_letter_of mode class.now.execute class.now.special class.now.small
+        class.now.capital }
 {
     if mode & class.special == 0 {
         letter(mode, class.execute, b'x')
@@ -91,7 +92,8 @@ pub fn read_mode(text: &[u8]) -> Option<u16>
 // The bits that the three letters of a class show.
 fn read_class(class: &Class, read: u8, write: u8, execute: u8) -> Option<u16>
     requires { class.now.execute + class.now.special ≤ 0o4100 }
-    ensures bits { result ≡ class_bits class.now.execute class.now.special class.now.small class.now.capital read write execute }
+    ensures bits { result ≡ class_bits class.now.execute class.now.special class.now.small
+        class.now.capital read write execute }
     ensures bound { IfSome result (λ bits. bits ≤ 7 * class.now.execute + class.now.special) }
 {
     let read_bit = letter_bit(4 * class.execute, b'r', read)?;
@@ -117,7 +119,8 @@ fn letter_bit(bit: u16, shown: u8, letter: u8) -> Option<u16>
 // The bits that the third letter of a class sets.
 fn third_bits(class: &Class, letter: u8) -> Option<u16>
     requires { class.now.execute + class.now.special ≤ 0o4100 }
-    ensures bits { result ≡ third_bits_of class.now.execute class.now.special class.now.small class.now.capital letter }
+    ensures bits { result ≡ third_bits_of class.now.execute class.now.special class.now.small
+        class.now.capital letter }
     ensures bound { IfSome result (λ bits. bits ≤ class.now.execute + class.now.special) }
 {
     if letter == class.small {

@@ -49,7 +49,8 @@ impl Path {
     /// The path of these names, or None where joined by `/` they have more than 4,095 bytes.
     pub fn join(alloc: Global, names: &[Name]) -> Result<Option<Self>, Memory>
         ensures path { IfOk result (λ found. IfSome found (λ p. p ≡ names.now)) }
-        ensures some { IfOk result (λ found. IsSome found ↔ (path_bytes names.now ≤ max_path_bytes)) }
+        ensures some { IfOk result (λ found. IsSome found ↔
+            (path_bytes names.now ≤ max_path_bytes)) }
     {
         if !is_short(names) {
             return Ok(None);
@@ -61,7 +62,8 @@ impl Path {
 
     // The path of these names, or None where joined by `/` they have more than 4,095 bytes. Takes no memory.
     pub(crate) fn from_names(names: Vec<Name>) -> Option<Self>
-        ensures { result ≡ (if nat_le (path_bytes names.items) max_path_bytes then Some names.items else None) }
+        ensures { result ≡ (if nat_le (path_bytes names.items) max_path_bytes then Some names.items
+            else None) }
     {
         if !is_short(&names) {
             return None;
@@ -80,7 +82,9 @@ impl Path {
 
     /// The path of this name in the directory, or None where it would have more than 4,095 bytes.
     pub fn child(&self, name: &Name) -> Result<Option<Self>, Memory>
-        ensures { IfOk result (λ found. found ≡ (if nat_le (path_bytes (self.now ++ name.now ∷ [])) max_path_bytes then Some (self.now ++ name.now ∷ []) else None)) }
+        ensures { IfOk result (λ found. found ≡
+            (if nat_le (path_bytes (self.now ++ name.now ∷ [])) max_path_bytes
+            then Some (self.now ++ name.now ∷ []) else None)) }
     {
         let mut names = copy_names(*self.names.allocator(), &self.names)?;
         names.push(name.copy()?)?;

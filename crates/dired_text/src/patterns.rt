@@ -29,5 +29,6 @@ pub trait Patterns {
     fn build(&mut self, alloc: Global, text: &str) -> Result<Regex, PatternsError>
         ensures read { IfOk result (IsPatternOf text.now) }
         ensures count { CountsRefusals result (refusals self.old) (refusals self.new) }
-        ensures may_fail { result ≡ Err PatternsError.Refused → MayFail self.old self.new text.now };
+        ensures may_fail { result ≡ Err PatternsError.Refused →
+            MayFail self.old self.new text.now };
 }

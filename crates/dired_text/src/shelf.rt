@@ -43,7 +43,8 @@ pub trait Shelf {
         ensures limit { IfOk result (λ bytes. length bytes ≤ limit) }
         ensures read { Tells → ReadsAs (files self.old name.now) limit result }
         ensures files { Tells → files self.new ≡ files self.old }
-        ensures last_failed { Tells → last_failed self.new ≡ last_after result name.now (last_failed self.old) }
+        ensures last_failed { Tells → last_failed self.new ≡
+            last_after result name.now (last_failed self.old) }
         ensures count { faults self.new ≡ count_after result (faults self.old) }
         ensures may_fail { result ≡ Err ShelfEnd.Failed → MayFail self.old self.new };
 }

@@ -84,7 +84,8 @@ impl Checked {
 
     /// The new place of a path of the tree, or None where it is replaced or removed, or has more than 4,095 bytes.
     pub fn new_place(&self, old: &Path) -> Result<Option<Path>, Memory>
-        ensures { IfOk result (λ found. found ≡ new_place_of (rows_in (changes_in self.now)) old.now) }
+        ensures { IfOk result (λ found. found ≡
+            new_place_of (rows_in (changes_in self.now)) old.now) }
     {
         if self.table.is_victim(old) || self.table.is_removed(old) {
             return Ok(None);

@@ -38,16 +38,23 @@ pub fn check<T: Tree>(
     requires asked { AreAsked changes }
     requires files { T.Tells → LinksHaveFiles (IsFile (current_tree (T.history tree.old))) changes }
 
-    ensures taken { T.Tells → OnOk result (CanBeMade (current_tree (T.history tree.old)) confirmed.now (rows_in changes)) }
-    ensures refused { T.Tells → IfErr result (λ fault. IsFreeOr fault (refusal (sight_of (current_tree (T.history tree.old))) confirmed.now (rows_in changes))) }
+    ensures taken { T.Tells → OnOk result
+        (CanBeMade (current_tree (T.history tree.old)) confirmed.now (rows_in changes)) }
+    ensures refused { T.Tells → IfErr result
+        (λ fault.
+        IsFreeOr fault
+        (refusal (sight_of (current_tree (T.history tree.old))) confirmed.now (rows_in changes))) }
     ensures answer { IfErr result (IsAnswer confirmed.now (rows_in changes)) }
     ensures keeps { IfOk result (λ c. (changes_in c ≡ changes) × (confirmed_in c ≡ confirmed.now)) }
-    ensures stands_for { T.Tells → IfOk result (λ c. StandsFor c (current_tree (T.history tree.old))) }
-    ensures counts { T.Tells → IfOk result (λ c. counts_in c ≡ counts_of (sight_of (current_tree (T.history tree.old))) (rows_in changes)) }
+    ensures stands_for { T.Tells → IfOk result
+        (λ c. StandsFor c (current_tree (T.history tree.old))) }
+    ensures counts { T.Tells → IfOk result (λ c. counts_in c ≡
+        counts_of (sight_of (current_tree (T.history tree.old))) (rows_in changes)) }
     ensures looked { T.Tells → OnlyLooked (failed_in failed_call result)
         (T.history tree.old) (T.history tree.new) (T.fields tree.old) (T.fields tree.new)
         (T.before_failed tree.old) (T.before_failed tree.new) }
-    ensures faults { T.faults tree.new ≡ faults_with (failed_in failed_call result) (T.faults tree.old) }
+    ensures faults { T.faults tree.new ≡
+        faults_with (failed_in failed_call result) (T.faults tree.old) }
     ensures unchanged { T.changes tree.new ≡ T.changes tree.old }
     ensures looks { IsLookAt (failed_in failed_call result) }
 {
@@ -72,9 +79,14 @@ fn decide(
     requires closed { IsClosed findings }
     requires unstaged { (sight_in findings).at staging ≡ None }
     requires shown { first_fault (stale (sight_in findings)) table.rows.items ≡ None }
-    ensures refused { IfErr result (λ fault. (fault ≡ faults.Memory) ⊎ (refusal (sight_in findings) confirmed.now table.rows.items ≡ Some fault)) }
-    ensures keeps { IfOk result (λ c. (c.changes ≡ changes) × (c.confirmed ≡ confirmed.now) × (c.findings ≡ findings)) }
-    ensures taken { OnOk result (refusal (sight_in findings) confirmed.now table.rows.items ≡ None) }
+    ensures refused { IfErr result
+        (λ fault.
+        (fault ≡ faults.Memory) ⊎ (refusal (sight_in findings) confirmed.now table.rows.items ≡
+        Some fault)) }
+    ensures keeps { IfOk result (λ c. (c.changes ≡ changes) × (c.confirmed ≡ confirmed.now) ×
+        (c.findings ≡ findings)) }
+    ensures taken { OnOk result (refusal (sight_in findings) confirmed.now table.rows.items ≡
+        None) }
     ensures counts { IfOk result (λ c. c.counts ≡ counts_of (sight_in findings) table.rows.items) }
 {
     if let Some(fault) = first_refusal(alloc, &table, &findings, confirmed)? {

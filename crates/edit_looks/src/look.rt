@@ -39,13 +39,15 @@ impl From<Memory> for SeeEnd {
 /// # Errors
 /// `Contradicts` never where the tree tells what it contains.
 pub fn look<T: Tree>(alloc: Global, tree: &mut T, path: &Path) -> Result<Option<Seen>, SeeEnd>
-    ensures found { T.Tells → IfOk result (λ found. found ≡ option_map seen (get (current_tree (T.history tree.old)) path.now)) }
+    ensures found { T.Tells → IfOk result (λ found. found ≡
+        option_map seen (get (current_tree (T.history tree.old)) path.now)) }
     ensures lawful { IfOk result HasLawfulMode }
     ensures agrees { T.Tells → IfErr result (λ e. contradicts e ≡ false) }
     ensures looked { T.Tells → OnlyLooked (failed_in failed_look result)
         (T.history tree.old) (T.history tree.new) (T.fields tree.old) (T.fields tree.new)
         (T.before_failed tree.old) (T.before_failed tree.new) }
-    ensures faults { T.faults tree.new ≡ faults_with (failed_in failed_look result) (T.faults tree.old) }
+    ensures faults { T.faults tree.new ≡
+        faults_with (failed_in failed_look result) (T.faults tree.old) }
     ensures unchanged { T.changes tree.new ≡ T.changes tree.old }
     ensures looks { IsLookAt (failed_in failed_look result) }
 {

@@ -34,13 +34,17 @@ pub fn look_for_rows<T: Tree>(
     ensures unstaged { IfOk result (λ f. (sight_in f).at staging ≡ None) }
     ensures shown { IfOk result (λ f. first_fault (stale (sight_in f)) rows.now ≡ None) }
     ensures closed { IfOk result IsClosed }
-    ensures found { T.Tells → IfOk result (λ f. HasFindings f (sight_of (current_tree (T.history tree.old)))) }
-    ensures refused { T.Tells → IfErr result (λ fault. IsFreeOr fault (ill_formed (sight_of (current_tree (T.history tree.old))) rows.now)) }
+    ensures found { T.Tells → IfOk result
+        (λ f. HasFindings f (sight_of (current_tree (T.history tree.old)))) }
+    ensures refused { T.Tells → IfErr result
+        (λ fault.
+        IsFreeOr fault (ill_formed (sight_of (current_tree (T.history tree.old))) rows.now)) }
     ensures end { IfErr result (IsLookEnd rows.now) }
     ensures looked { T.Tells → OnlyLooked (failed_in failed_call result)
         (T.history tree.old) (T.history tree.new) (T.fields tree.old) (T.fields tree.new)
         (T.before_failed tree.old) (T.before_failed tree.new) }
-    ensures faults { T.faults tree.new ≡ faults_with (failed_in failed_call result) (T.faults tree.old) }
+    ensures faults { T.faults tree.new ≡
+        faults_with (failed_in failed_call result) (T.faults tree.old) }
     ensures unchanged { T.changes tree.new ≡ T.changes tree.old }
     ensures looks { IsLookAt (failed_in failed_call result) }
 {
@@ -55,13 +59,18 @@ pub fn look_for_rows<T: Tree>(
 fn see_staging<T: Tree>(alloc: Global, tree: &mut T) -> Result<Findings, CheckFault>
     ensures unstaged { IfOk result (λ f. get path_cmp f.found staging ≡ Some None) }
     ensures closed { IfOk result IsClosed }
-    ensures told { T.Tells → IfOk result (λ f. HasFindings f (sight_of (current_tree (T.history tree.old)))) }
-    ensures refused { T.Tells → IfErr result (λ e. IsFreeOr e (fault_if (is_some ((sight_of (current_tree (T.history tree.old))).at staging)) fault.Pending)) }
+    ensures told { T.Tells → IfOk result
+        (λ f. HasFindings f (sight_of (current_tree (T.history tree.old)))) }
+    ensures refused { T.Tells → IfErr result
+        (λ e. IsFreeOr e
+        (fault_if
+        (is_some ((sight_of (current_tree (T.history tree.old))).at staging)) fault.Pending)) }
     ensures end { IfErr result (λ e. IsFreeOr e (Some fault.Pending)) }
     ensures looked { T.Tells → OnlyLooked (failed_in failed_call result)
         (T.history tree.old) (T.history tree.new) (T.fields tree.old) (T.fields tree.new)
         (T.before_failed tree.old) (T.before_failed tree.new) }
-    ensures faults { T.faults tree.new ≡ faults_with (failed_in failed_call result) (T.faults tree.old) }
+    ensures faults { T.faults tree.new ≡
+        faults_with (failed_in failed_call result) (T.faults tree.old) }
     ensures unchanged { T.changes tree.new ≡ T.changes tree.old }
     ensures looks { IsLookAt (failed_in failed_call result) }
 {
@@ -97,7 +106,8 @@ fn unstaged(alloc: Global, path: &Path) -> Result<Findings, Memory>
     requires staging { path.now ≡ staging }
     ensures unstaged { IfOk result (λ f. get path_cmp f.found staging ≡ Some None) }
     ensures closed { IfOk result IsClosed }
-    ensures told { IfOk result (λ f. (s : Sight) → IsSeenAsTree s → s.at staging ≡ None → HasFindings f s) }
+    ensures told { IfOk result (λ f. (s : Sight) → IsSeenAsTree s → s.at staging ≡ None →
+        HasFindings f s) }
 {
     let mut findings = Findings::new(alloc);
     findings.note(path, None)?;
@@ -112,17 +122,23 @@ fn see_sources<T: Tree>(
     rows: &[Row],
 ) -> Result<(), CheckFault>
     requires closed { IsClosed findings.old }
-    requires told { T.Tells → HasFindings findings.old (sight_of (current_tree (T.history tree.old))) }
+    requires told { T.Tells → HasFindings findings.old
+        (sight_of (current_tree (T.history tree.old))) }
     ensures shown { OnOk result (All (IsShownIn findings.new) rows.now) }
     ensures grown { HasGrown findings.old findings.new }
     ensures closed { IsClosed findings.new }
-    ensures told { T.Tells → HasFindings findings.new (sight_of (current_tree (T.history tree.old))) }
-    ensures refused { T.Tells → IfErr result (λ fault. IsFreeOr fault (first_fault (stale (sight_of (current_tree (T.history tree.old)))) rows.now)) }
+    ensures told { T.Tells → HasFindings findings.new
+        (sight_of (current_tree (T.history tree.old))) }
+    ensures refused { T.Tells → IfErr result
+        (λ fault.
+        IsFreeOr fault
+        (first_fault (stale (sight_of (current_tree (T.history tree.old)))) rows.now)) }
     ensures line { IfErr result (IsStaleIn rows.now) }
     ensures looked { T.Tells → OnlyLooked (failed_in failed_call result)
         (T.history tree.old) (T.history tree.new) (T.fields tree.old) (T.fields tree.new)
         (T.before_failed tree.old) (T.before_failed tree.new) }
-    ensures faults { T.faults tree.new ≡ faults_with (failed_in failed_call result) (T.faults tree.old) }
+    ensures faults { T.faults tree.new ≡
+        faults_with (failed_in failed_call result) (T.faults tree.old) }
     ensures unchanged { T.changes tree.new ≡ T.changes tree.old }
     ensures looks { IsLookAt (failed_in failed_call result) }
 {
@@ -140,17 +156,21 @@ fn see_source<T: Tree>(
     row: &Row,
 ) -> Result<(), CheckFault>
     requires closed { IsClosed findings.old }
-    requires told { T.Tells → HasFindings findings.old (sight_of (current_tree (T.history tree.old))) }
+    requires told { T.Tells → HasFindings findings.old
+        (sight_of (current_tree (T.history tree.old))) }
     ensures shown { OnOk result (IsShownIn findings.new row.now) }
     ensures grown { HasGrown findings.old findings.new }
     ensures closed { IsClosed findings.new }
-    ensures told { T.Tells → HasFindings findings.new (sight_of (current_tree (T.history tree.old))) }
-    ensures refused { T.Tells → IfErr result (λ fault. IsFreeOr fault (stale (sight_of (current_tree (T.history tree.old))) row.now)) }
+    ensures told { T.Tells → HasFindings findings.new
+        (sight_of (current_tree (T.history tree.old))) }
+    ensures refused { T.Tells → IfErr result
+        (λ fault. IsFreeOr fault (stale (sight_of (current_tree (T.history tree.old))) row.now)) }
     ensures line { IfErr result (λ e. IsFreeOr e (Some (fault.Stale row.now.line))) }
     ensures looked { T.Tells → OnlyLooked (failed_in failed_call result)
         (T.history tree.old) (T.history tree.new) (T.fields tree.old) (T.fields tree.new)
         (T.before_failed tree.old) (T.before_failed tree.new) }
-    ensures faults { T.faults tree.new ≡ faults_with (failed_in failed_call result) (T.faults tree.old) }
+    ensures faults { T.faults tree.new ≡
+        faults_with (failed_in failed_call result) (T.faults tree.old) }
     ensures unchanged { T.changes tree.new ≡ T.changes tree.old }
     ensures looks { IsLookAt (failed_in failed_call result) }
 {
@@ -172,17 +192,20 @@ fn see_new_paths<T: Tree>(
     rows: &[Row],
 ) -> Result<(), CheckFault>
     requires closed { IsClosed findings.old }
-    requires told { T.Tells → HasFindings findings.old (sight_of (current_tree (T.history tree.old))) }
+    requires told { T.Tells → HasFindings findings.old
+        (sight_of (current_tree (T.history tree.old))) }
     ensures seen { OnOk result (All (IsToSeen findings.new) rows.now) }
     ensures grown { HasGrown findings.old findings.new }
     ensures closed { IsClosed findings.new }
-    ensures told { T.Tells → HasFindings findings.new (sight_of (current_tree (T.history tree.old))) }
+    ensures told { T.Tells → HasFindings findings.new
+        (sight_of (current_tree (T.history tree.old))) }
     ensures refused { T.Tells → IfErr result (λ fault. IsFreeOr fault None) }
     ensures line { IfErr result (IsStaleIn rows.now) }
     ensures looked { T.Tells → OnlyLooked (failed_in failed_call result)
         (T.history tree.old) (T.history tree.new) (T.fields tree.old) (T.fields tree.new)
         (T.before_failed tree.old) (T.before_failed tree.new) }
-    ensures faults { T.faults tree.new ≡ faults_with (failed_in failed_call result) (T.faults tree.old) }
+    ensures faults { T.faults tree.new ≡
+        faults_with (failed_in failed_call result) (T.faults tree.old) }
     ensures unchanged { T.changes tree.new ≡ T.changes tree.old }
     ensures looks { IsLookAt (failed_in failed_call result) }
 {
@@ -200,17 +223,20 @@ fn see_new_path<T: Tree>(
     row: &Row,
 ) -> Result<(), CheckFault>
     requires closed { IsClosed findings.old }
-    requires told { T.Tells → HasFindings findings.old (sight_of (current_tree (T.history tree.old))) }
+    requires told { T.Tells → HasFindings findings.old
+        (sight_of (current_tree (T.history tree.old))) }
     ensures seen { OnOk result (IsToSeen findings.new row.now) }
     ensures grown { HasGrown findings.old findings.new }
     ensures closed { IsClosed findings.new }
-    ensures told { T.Tells → HasFindings findings.new (sight_of (current_tree (T.history tree.old))) }
+    ensures told { T.Tells → HasFindings findings.new
+        (sight_of (current_tree (T.history tree.old))) }
     ensures refused { T.Tells → IfErr result (λ fault. IsFreeOr fault None) }
     ensures line { IfErr result (λ e. IsFreeOr e (Some (fault.Stale row.now.line))) }
     ensures looked { T.Tells → OnlyLooked (failed_in failed_call result)
         (T.history tree.old) (T.history tree.new) (T.fields tree.old) (T.fields tree.new)
         (T.before_failed tree.old) (T.before_failed tree.new) }
-    ensures faults { T.faults tree.new ≡ faults_with (failed_in failed_call result) (T.faults tree.old) }
+    ensures faults { T.faults tree.new ≡
+        faults_with (failed_in failed_call result) (T.faults tree.old) }
     ensures unchanged { T.changes tree.new ≡ T.changes tree.old }
     ensures looks { IsLookAt (failed_in failed_call result) }
 {
@@ -229,18 +255,21 @@ fn see_for<T: Tree>(
     path: &Path,
 ) -> Result<(), CheckFault>
     requires closed { IsClosed findings.old }
-    requires told { T.Tells → HasFindings findings.old (sight_of (current_tree (T.history tree.old))) }
+    requires told { T.Tells → HasFindings findings.old
+        (sight_of (current_tree (T.history tree.old))) }
     ensures seen { OnOk result (IsSeen findings.new path.now) }
     ensures above { OnOk result ((u : Names) → IsAbove u path.now → IsSeen findings.new u) }
     ensures grown { HasGrown findings.old findings.new }
     ensures closed { IsClosed findings.new }
-    ensures told { T.Tells → HasFindings findings.new (sight_of (current_tree (T.history tree.old))) }
+    ensures told { T.Tells → HasFindings findings.new
+        (sight_of (current_tree (T.history tree.old))) }
     ensures refused { T.Tells → IfErr result (λ fault. IsFreeOr fault None) }
     ensures line { IfErr result (λ e. IsFreeOr e (Some (fault.Stale line))) }
     ensures looked { T.Tells → OnlyLooked (failed_in failed_call result)
         (T.history tree.old) (T.history tree.new) (T.fields tree.old) (T.fields tree.new)
         (T.before_failed tree.old) (T.before_failed tree.new) }
-    ensures faults { T.faults tree.new ≡ faults_with (failed_in failed_call result) (T.faults tree.old) }
+    ensures faults { T.faults tree.new ≡
+        faults_with (failed_in failed_call result) (T.faults tree.old) }
     ensures unchanged { T.changes tree.new ≡ T.changes tree.old }
     ensures looks { IsLookAt (failed_in failed_call result) }
 {
@@ -257,16 +286,19 @@ fn see_removed<T: Tree>(
     rows: &[Row],
 ) -> Result<(), CheckFault>
     requires closed { IsClosed findings.old }
-    requires told { T.Tells → HasFindings findings.old (sight_of (current_tree (T.history tree.old))) }
+    requires told { T.Tells → HasFindings findings.old
+        (sight_of (current_tree (T.history tree.old))) }
     ensures asked { OnOk result (All (IsRemovedSeen findings.new) rows.now) }
     ensures grown { HasGrown findings.old findings.new }
     ensures closed { IsClosed findings.new }
-    ensures told { T.Tells → HasFindings findings.new (sight_of (current_tree (T.history tree.old))) }
+    ensures told { T.Tells → HasFindings findings.new
+        (sight_of (current_tree (T.history tree.old))) }
     ensures refused { IfErr result (λ fault. IsFreeOr fault None) }
     ensures looked { T.Tells → OnlyLooked (failed_in failed_call result)
         (T.history tree.old) (T.history tree.new) (T.fields tree.old) (T.fields tree.new)
         (T.before_failed tree.old) (T.before_failed tree.new) }
-    ensures faults { T.faults tree.new ≡ faults_with (failed_in failed_call result) (T.faults tree.old) }
+    ensures faults { T.faults tree.new ≡
+        faults_with (failed_in failed_call result) (T.faults tree.old) }
     ensures unchanged { T.changes tree.new ≡ T.changes tree.old }
     ensures looks { IsLookAt (failed_in failed_call result) }
 {
@@ -283,17 +315,20 @@ fn see_removed_row<T: Tree>(
     row: &Row,
 ) -> Result<(), CheckFault>
     requires closed { IsClosed findings.old }
-    requires told { T.Tells → HasFindings findings.old (sight_of (current_tree (T.history tree.old))) }
+    requires told { T.Tells → HasFindings findings.old
+        (sight_of (current_tree (T.history tree.old))) }
     ensures asked { OnOk result (IsRemovedSeen findings.new row.now) }
     ensures grown { HasGrown findings.old findings.new }
     ensures found { findings.new.found ≡ findings.old.found }
     ensures closed { IsClosed findings.new }
-    ensures told { T.Tells → HasFindings findings.new (sight_of (current_tree (T.history tree.old))) }
+    ensures told { T.Tells → HasFindings findings.new
+        (sight_of (current_tree (T.history tree.old))) }
     ensures refused { IfErr result (λ fault. IsFreeOr fault None) }
     ensures looked { T.Tells → OnlyLooked (failed_in failed_call result)
         (T.history tree.old) (T.history tree.new) (T.fields tree.old) (T.fields tree.new)
         (T.before_failed tree.old) (T.before_failed tree.new) }
-    ensures faults { T.faults tree.new ≡ faults_with (failed_in failed_call result) (T.faults tree.old) }
+    ensures faults { T.faults tree.new ≡
+        faults_with (failed_in failed_call result) (T.faults tree.old) }
     ensures unchanged { T.changes tree.new ≡ T.changes tree.old }
     ensures looks { IsLookAt (failed_in failed_call result) }
 {

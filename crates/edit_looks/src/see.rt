@@ -27,17 +27,20 @@ pub fn see<T: Tree>(
     path: &Path,
 ) -> Result<(), SeeEnd>
     requires closed { IsClosed findings.old }
-    requires told { T.Tells → HasFindings findings.old (sight_of (current_tree (T.history tree.old))) }
+    requires told { T.Tells → HasFindings findings.old
+        (sight_of (current_tree (T.history tree.old))) }
     ensures seen { OnOk result (IsSeen findings.new path.now) }
     ensures above { OnOk result ((u : Names) → IsAbove u path.now → IsSeen findings.new u) }
     ensures grown { HasGrown findings.old findings.new }
     ensures closed { IsClosed findings.new }
-    ensures told { T.Tells → HasFindings findings.new (sight_of (current_tree (T.history tree.old))) }
+    ensures told { T.Tells → HasFindings findings.new
+        (sight_of (current_tree (T.history tree.old))) }
     ensures agrees { T.Tells → IfErr result (λ e. contradicts e ≡ false) }
     ensures looked { T.Tells → OnlyLooked (failed_in failed_look result)
         (T.history tree.old) (T.history tree.new) (T.fields tree.old) (T.fields tree.new)
         (T.before_failed tree.old) (T.before_failed tree.new) }
-    ensures faults { T.faults tree.new ≡ faults_with (failed_in failed_look result) (T.faults tree.old) }
+    ensures faults { T.faults tree.new ≡
+        faults_with (failed_in failed_look result) (T.faults tree.old) }
     ensures unchanged { T.changes tree.new ≡ T.changes tree.old }
     ensures looks { IsLookAt (failed_in failed_look result) }
 {
@@ -64,17 +67,20 @@ fn see_down<T: Tree>(
     path: &Path,
 ) -> Result<(), SeeEnd>
     requires closed { IsClosed findings.old }
-    requires told { T.Tells → HasFindings findings.old (sight_of (current_tree (T.history tree.old))) }
+    requires told { T.Tells → HasFindings findings.old
+        (sight_of (current_tree (T.history tree.old))) }
     ensures seen { OnOk result (IsSeen findings.new path.now) }
     ensures above { OnOk result ((u : Names) → IsAbove u path.now → IsSeen findings.new u) }
     ensures grown { HasGrown findings.old findings.new }
     ensures closed { IsClosed findings.new }
-    ensures told { T.Tells → HasFindings findings.new (sight_of (current_tree (T.history tree.old))) }
+    ensures told { T.Tells → HasFindings findings.new
+        (sight_of (current_tree (T.history tree.old))) }
     ensures agrees { T.Tells → IfErr result (λ e. contradicts e ≡ false) }
     ensures looked { T.Tells → OnlyLooked (failed_in failed_look result)
         (T.history tree.old) (T.history tree.new) (T.fields tree.old) (T.fields tree.new)
         (T.before_failed tree.old) (T.before_failed tree.new) }
-    ensures faults { T.faults tree.new ≡ faults_with (failed_in failed_look result) (T.faults tree.old) }
+    ensures faults { T.faults tree.new ≡
+        faults_with (failed_in failed_look result) (T.faults tree.old) }
     ensures unchanged { T.changes tree.new ≡ T.changes tree.old }
     ensures looks { IsLookAt (failed_in failed_look result) }
 {
@@ -94,19 +100,23 @@ fn see_here<T: Tree>(
     findings: &mut Findings,
     path: &Path,
 ) -> Result<bool, SeeEnd>
-    requires above { (u : Names) → IsAbove u path.now → is_dir_of ((sight_in findings.old).at u) ≡ true }
+    requires above { (u : Names) → IsAbove u path.now → is_dir_of ((sight_in findings.old).at u) ≡
+        true }
     requires closed { IsClosed findings.old }
-    requires told { T.Tells → HasFindings findings.old (sight_of (current_tree (T.history tree.old))) }
+    requires told { T.Tells → HasFindings findings.old
+        (sight_of (current_tree (T.history tree.old))) }
     ensures looked_at { OnOk result (IsLookedAt findings.new path.now) }
     ensures dir { IfOk result (λ b. b ≡ is_dir_of ((sight_in findings.new).at path.now)) }
     ensures grown { HasGrown findings.old findings.new }
     ensures closed { IsClosed findings.new }
-    ensures told { T.Tells → HasFindings findings.new (sight_of (current_tree (T.history tree.old))) }
+    ensures told { T.Tells → HasFindings findings.new
+        (sight_of (current_tree (T.history tree.old))) }
     ensures agrees { T.Tells → IfErr result (λ e. contradicts e ≡ false) }
     ensures looked { T.Tells → OnlyLooked (failed_in failed_look result)
         (T.history tree.old) (T.history tree.new) (T.fields tree.old) (T.fields tree.new)
         (T.before_failed tree.old) (T.before_failed tree.new) }
-    ensures faults { T.faults tree.new ≡ faults_with (failed_in failed_look result) (T.faults tree.old) }
+    ensures faults { T.faults tree.new ≡
+        faults_with (failed_in failed_look result) (T.faults tree.old) }
     ensures unchanged { T.changes tree.new ≡ T.changes tree.old }
     ensures looks { IsLookAt (failed_in failed_look result) }
 {
@@ -124,16 +134,20 @@ fn see_here<T: Tree>(
 
 /// Looks whether a directory that was found is empty, where that wasn't done before.
 pub fn see_empty<T: Tree>(tree: &mut T, findings: &mut Findings, path: &Path) -> Result<(), SeeEnd>
-    requires told { T.Tells → HasFindings findings.old (sight_of (current_tree (T.history tree.old))) }
-    ensures asked { OnOk result (is_dir_of ((sight_in findings.new).at path.now) ≡ true → IsTrue (is_some (get path_cmp findings.new.empty path.now))) }
+    requires told { T.Tells → HasFindings findings.old
+        (sight_of (current_tree (T.history tree.old))) }
+    ensures asked { OnOk result (is_dir_of ((sight_in findings.new).at path.now) ≡ true →
+        IsTrue (is_some (get path_cmp findings.new.empty path.now))) }
     ensures grown { HasGrown findings.old findings.new }
     ensures found { findings.new.found ≡ findings.old.found }
-    ensures told { T.Tells → HasFindings findings.new (sight_of (current_tree (T.history tree.old))) }
+    ensures told { T.Tells → HasFindings findings.new
+        (sight_of (current_tree (T.history tree.old))) }
     ensures agrees { IfErr result (λ e. contradicts e ≡ false) }
     ensures looked { T.Tells → OnlyLooked (failed_in failed_look result)
         (T.history tree.old) (T.history tree.new) (T.fields tree.old) (T.fields tree.new)
         (T.before_failed tree.old) (T.before_failed tree.new) }
-    ensures faults { T.faults tree.new ≡ faults_with (failed_in failed_look result) (T.faults tree.old) }
+    ensures faults { T.faults tree.new ≡
+        faults_with (failed_in failed_look result) (T.faults tree.old) }
     ensures unchanged { T.changes tree.new ≡ T.changes tree.old }
     ensures looks { IsLookAt (failed_in failed_look result) }
 {

@@ -23,8 +23,10 @@ use std::alloc::Global;
 pub fn changed_bytes(alloc: Global, table: &Table, findings: &Findings) -> Result<u64, Memory>
     requires table { IsTable table.now }
     requires count { length table.now.rows.items ≤ max_changes }
-    requires short { first_fault (fault.across (sight_in findings.now) table.now.rows.items) table.now.rows.items ≡ None }
-    ensures { IfOk result (λ bytes. bytes ≡ fault.changed_bytes (sight_in findings.now) table.now.rows.items) }
+    requires short { first_fault
+        (fault.across (sight_in findings.now) table.now.rows.items) table.now.rows.items ≡ None }
+    ensures { IfOk result (λ bytes. bytes ≡
+        fault.changed_bytes (sight_in findings.now) table.now.rows.items) }
 {
     let standing = standing(alloc, findings)?;
     let mut bytes = 0;
@@ -42,7 +44,8 @@ pub fn missing_above(
     row: &Row,
 ) -> Result<Vec<Path>, Memory>
     requires { IsStanding standing.now findings.now }
-    ensures missing { IfOk result (λ v. v.items ≡ fault.missing_above (sight_in findings.now) row.now) }
+    ensures missing { IfOk result (λ v. v.items ≡
+        fault.missing_above (sight_in findings.now) row.now) }
     ensures few { IfOk result (λ v. length v.items ≤ 4096) }
 {
     if !is_elsewhere(row) {
@@ -57,7 +60,8 @@ pub fn missing_above(
 // The paths above a path at which nothing stands.
 fn where_missing(alloc: Global, path: &Path, above: &[Option<&Found>]) -> Result<Vec<Path>, Memory>
     requires { length above.now ≡ length path.now }
-    ensures { IfOk result (λ v. v.items ≡ paths_missing [] path.now (map (option_map (λ f. f.now)) above.now)) }
+    ensures { IfOk result (λ v. v.items ≡
+        paths_missing [] path.now (map (option_map (λ f. f.now)) above.now)) }
 {
     let mut missing = Vec::new(alloc);
     for at in 0..above.len() {
@@ -75,7 +79,9 @@ fn add_missing(
     found: Option<&Found>,
 ) -> Result<(), Memory>
     requires { len ≤ length path.now }
-    ensures { OnOk result (missing.new.items ≡ missing.old.items ++ (if is_standing (option_map (λ f. f.now) found.entry) then [] else take len path.now ∷ [])) }
+    ensures { OnOk result (missing.new.items ≡ missing.old.items
+        ++ (if is_standing (option_map (λ f. f.now) found.entry) then [] else take len path.now
+        ∷ [])) }
 {
     if !stands(found) {
         missing.push(ancestor(alloc, path, len)?)?;
@@ -91,7 +97,8 @@ fn missing_bytes(
     row: &Row,
 ) -> Result<u64, Memory>
     requires { IsStanding standing.now findings.now }
-    ensures bytes { IfOk result (λ bytes. bytes ≡ total path_bytes (fault.missing_above (sight_in findings.now) row.now)) }
+    ensures bytes { IfOk result (λ bytes. bytes ≡
+        total path_bytes (fault.missing_above (sight_in findings.now) row.now)) }
     ensures few { IfOk result (λ bytes. bytes ≤ 4096 * max_path_bytes) }
 {
     if !is_elsewhere(row) {
@@ -146,7 +153,8 @@ fn row_bytes(
     requires table { IsTable table.now }
     requires standing { IsStanding standing.now findings.now }
     requires short { fault.path_too_long table.now.rows.items row.now ≡ None }
-    ensures bytes { IfOk result (λ bytes. bytes ≡ fault.row_bytes (sight_in findings.now) table.now.rows.items row.now) }
+    ensures bytes { IfOk result (λ bytes. bytes ≡
+        fault.row_bytes (sight_in findings.now) table.now.rows.items row.now) }
     ensures few { IfOk result (λ bytes. bytes ≤ 2 ^ 25) }
 {
     let own = own_bytes(alloc, table, row)?;

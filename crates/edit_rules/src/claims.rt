@@ -64,7 +64,8 @@ pub fn lesser(a: Option<u32>, b: Option<u32>) -> Option<u32>
 
 /// The least first line of these claims.
 pub fn least(claims: &[Option<&Claim>]) -> Option<u32>
-    ensures { result ≡ least_line (λ claim. first_line (option_map (λ c. c.now) claim)) None claims.now }
+    ensures { result ≡ least_line
+        (λ claim. first_line (option_map (λ c. c.now) claim)) None claims.now }
 {
     let mut least = None;
     for claim in claims {
@@ -104,7 +105,10 @@ impl PathClaims {
     pub fn note(&mut self, path: &Path, line: u32) -> Result<(), Memory>
         requires { IsPathMap self.old.claims }
         ensures map { OnOk result (IsPathMap self.new.claims) }
-        ensures noted { OnOk result ((p : Names) → value_at self.new.claims p ≡ cond (is_same_path path.now p) (Some (claimed_by line line (value_at self.old.claims p))) (value_at self.old.claims p)) }
+        ensures noted { OnOk result ((p : Names) → value_at self.new.claims p ≡
+            cond (is_same_path path.now p)
+            (Some (claimed_by line line (value_at self.old.claims p)))
+            (value_at self.old.claims p)) }
     {
         let claim = claimed(self.claims.get(path).copied(), line, line);
         self.claims.set(path, claim)?;
@@ -137,7 +141,9 @@ impl FileClaims {
 
     /// Notes that a line claims a file. The lines come in their order.
     pub fn note(&mut self, number: u64, value: u32, line: u32) -> Result<(), Memory>
-        ensures { OnOk result ((n : ℕ) → get nat_cmp self.new.claims n ≡ cond (number == n) (Some (claimed_by value line (get nat_cmp self.old.claims number))) (get nat_cmp self.old.claims n)) }
+        ensures { OnOk result ((n : ℕ) → get nat_cmp self.new.claims n ≡
+            cond (number == n) (Some (claimed_by value line (get nat_cmp self.old.claims number)))
+            (get nat_cmp self.old.claims n)) }
     {
         let claim = claimed(self.claims.get(&number).copied(), value, line);
         self.claims.insert(number, claim)?;

@@ -66,7 +66,9 @@ fn modes(rows: &[Row]) -> u32
 fn replaced(table: &Table, findings: &Findings) -> u32
     requires table { IsTable table.now }
     requires count { length table.now.rows.items ≤ max_changes }
-    ensures { result ≡ count_by (λ (r : Row). is_some (fault.victim_of (sight_in findings.now) table.now.rows.items r)) table.now.rows.items }
+    ensures { result ≡ count_by
+        (λ (r : Row). is_some (fault.victim_of (sight_in findings.now) table.now.rows.items r))
+        table.now.rows.items }
 {
     let mut count = 0;
     for row in &table.rows {
@@ -96,7 +98,8 @@ fn created(rows: &[Row]) -> u32
 // How many directories are made above new paths.
 fn made(alloc: Global, rows: &[Row], findings: &Findings) -> Result<u32, Memory>
     requires { length rows.now ≤ max_changes }
-    ensures { IfOk result (λ n. n ≡ different (flat_map (fault.missing_above (sight_in findings.now)) rows.now)) }
+    ensures { IfOk result (λ n. n ≡
+        different (flat_map (fault.missing_above (sight_in findings.now)) rows.now)) }
 {
     let standing = standing(alloc, findings)?;
     let mut paths = BTreeSet::new(alloc);
@@ -109,7 +112,8 @@ fn made(alloc: Global, rows: &[Row], findings: &Findings) -> Result<u32, Memory>
 
 // Puts paths into a set.
 fn add_paths(paths: &mut BTreeSet<Path>, more: &[Path]) -> Result<(), Memory>
-    ensures { OnOk result ((ps : List Names) → HasPaths paths.old ps → HasPaths paths.new (ps ++ more.now)) }
+    ensures { OnOk result ((ps : List Names) → HasPaths paths.old ps →
+        HasPaths paths.new (ps ++ more.now)) }
 {
     for path in more {
         paths.insert(path.copy()?)?;

@@ -49,7 +49,8 @@ pub fn missing_by_path(
 
 // The directories that have to be made above each written path, line by line.
 fn all_missing(alloc: Global, rows: &[Row], findings: &Findings) -> Result<Vec<Path>, Memory>
-    ensures { IfOk result (λ v. v.items ≡ flat_map (missing_above_of (sight_in findings.now)) rows.now) }
+    ensures { IfOk result (λ v. v.items ≡
+        flat_map (missing_above_of (sight_in findings.now)) rows.now) }
 {
     let standing = standing(alloc, findings)?;
     let mut all = Vec::new(alloc);

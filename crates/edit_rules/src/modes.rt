@@ -25,7 +25,8 @@ pub fn modes_by_depth(
     findings: &Findings,
 ) -> Result<Vec<(Path, u16, u16)>, Memory>
     requires table { IsTable table.now }
-    requires short { first_fault (fault.across (sight_in findings.now) table.now.rows.items) table.now.rows.items ≡ None }
+    requires short { first_fault
+        (fault.across (sight_in findings.now) table.now.rows.items) table.now.rows.items ≡ None }
     ensures { IfOk result (λ v. AreModes (sight_in findings.now) table.now.rows.items v.items) }
 {
     let mut modes = modes_by_line(alloc, table, findings)?;
@@ -56,8 +57,10 @@ fn modes_by_line(
     findings: &Findings,
 ) -> Result<Vec<(Path, u16, u16)>, Memory>
     requires table { IsTable table.now }
-    requires short { first_fault (fault.across (sight_in findings.now) table.now.rows.items) table.now.rows.items ≡ None }
-    ensures { IfOk result (λ v. v.items ≡ mode_changes (sight_in findings.now) table.now.rows.items) }
+    requires short { first_fault
+        (fault.across (sight_in findings.now) table.now.rows.items) table.now.rows.items ≡ None }
+    ensures { IfOk result (λ v. v.items ≡
+        mode_changes (sight_in findings.now) table.now.rows.items) }
 {
     let file_modes = file_modes_of(alloc, &table.rows, findings)?;
     let mut modes = Vec::new(alloc);
@@ -78,9 +81,11 @@ fn mode_change(
     row: &Row,
 ) -> Result<Option<(Path, u16, u16)>, Memory>
     requires table { IsTable table.now }
-    requires file_modes { AreFileModes (sight_in findings.now) file_modes.now.claims table.now.rows.items }
+    requires file_modes { AreFileModes
+        (sight_in findings.now) file_modes.now.claims table.now.rows.items }
     requires short { fault.path_too_long table.now.rows.items row.now ≡ None }
-    ensures { IfOk result (λ c. c ≡ mode_change_of (sight_in findings.now) table.now.rows.items row.now) }
+    ensures { IfOk result (λ c. c ≡
+        mode_change_of (sight_in findings.now) table.now.rows.items row.now) }
 {
     let (Some(source), Some(was), Some(mode)) = (&row.source, &row.was, row.mode) else {
         return Ok(None);
@@ -99,7 +104,8 @@ fn mode_change(
 #[tactic(auto, using(crate::proofs::ClaimLemmas::first_claimed))]
 fn names_place(table: &Table, findings: &Findings, file_modes: &FileClaims, row: &Row) -> bool
     requires { AreFileModes (sight_in findings.now) file_modes.now.claims table.now.rows.items }
-    ensures { result ≡ names_place_of (sight_in findings.now) table.now.rows.items row.now (number_at (sight_in findings.now) row.now.source) }
+    ensures { result ≡ names_place_of (sight_in findings.now) table.now.rows.items row.now
+        (number_at (sight_in findings.now) row.now.source) }
 {
     let _rows = &table.rows;
     match file_number(findings, &row.source) {

@@ -15,7 +15,8 @@ use std::alloc::Global;
 /// The names of the new place of a path, from the root down.
 pub fn place(alloc: Global, table: &Table, path: &Path) -> Result<Vec<Name>, Memory>
     requires { IsTable table.now }
-    ensures { IfOk result (λ names. names.items ≡ place_of (route_of table.now.rows.items) path.now) }
+    ensures { IfOk result (λ names. names.items ≡
+        place_of (route_of table.now.rows.items) path.now) }
 {
     let routes = table.routes.along(alloc, path)?;
     let last = last_sent(&routes);
@@ -52,7 +53,8 @@ fn is_sent(route: Option<&Route>) -> bool {
 
 // How many names have their place already, and what it is, where a path of so many names is sent somewhere.
 fn begin(alloc: Global, len: usize, route: Option<&Route>) -> Result<(usize, Vec<Name>), Memory>
-    ensures { IfOk result (λ begun. IsBegun len (option_map (λ t. t.now) route.entry) begun.0 begun.1.items) }
+    ensures { IfOk result
+        (λ begun. IsBegun len (option_map (λ t. t.now) route.entry) begun.0 begun.1.items) }
 {
     match route {
         Some(Route::Sent(path)) if len > 0 => Ok((len, copy_names(alloc, path.names())?)),
@@ -67,7 +69,9 @@ fn routed(
     to: Vec<Name>,
     name: &Name,
 ) -> Result<Vec<Name>, Memory>
-    ensures { IfOk result (λ names. names.items ≡ routed_of (unwrap_or (option_map (λ t. t.now) route.entry) routes.Stays) to.items name.now) }
+    ensures { IfOk result (λ names. names.items ≡
+        routed_of
+        (unwrap_or (option_map (λ t. t.now) route.entry) routes.Stays) to.items name.now) }
 {
     let name = match route {
         None | Some(Route::Stays) => name,

@@ -36,7 +36,8 @@ pub fn first_refusal(
     requires count { length table.now.rows.items ≤ max_changes }
     requires unstaged { (sight_in findings.now).at staging ≡ None }
     requires shown { first_fault (fault.stale (sight_in findings.now)) table.now.rows.items ≡ None }
-    ensures { IfOk result (λ f. f ≡ fault.refusal (sight_in findings.now) confirmed.now table.now.rows.items) }
+    ensures { IfOk result (λ f. f ≡
+        fault.refusal (sight_in findings.now) confirmed.now table.now.rows.items) }
 {
     if let Some(fault) = first_across(alloc, table, findings)? {
         return Ok(Some(fault));
@@ -61,7 +62,9 @@ fn first_across(
 ) -> Result<Option<CheckFault>, Memory>
     requires table { IsTable table.now }
     requires lines { LinesRise table.now.rows.items }
-    ensures { IfOk result (λ f. f ≡ first_fault (fault.across (sight_in findings.now) table.now.rows.items) table.now.rows.items) }
+    ensures { IfOk result (λ f. f ≡
+        first_fault
+        (fault.across (sight_in findings.now) table.now.rows.items) table.now.rows.items) }
 {
     let standing = standing(alloc, findings)?;
     let file_modes = file_modes_of(alloc, &table.rows, findings)?;
@@ -76,7 +79,10 @@ fn first_across(
 // The first row that would replace a directory.
 fn first_replaced(table: &Table, findings: &Findings) -> Result<Option<CheckFault>, Memory>
     requires { IsTable table.now }
-    ensures { IfOk result (λ f. f ≡ first_fault (fault.directory_replaced (sight_in findings.now) table.now.rows.items) table.now.rows.items) }
+    ensures { IfOk result (λ f. f ≡
+        first_fault
+        (fault.directory_replaced (sight_in findings.now) table.now.rows.items)
+        table.now.rows.items) }
 {
     for row in &table.rows {
         if let Some(fault) = directory_replaced(table, findings, row)? {
@@ -88,7 +94,8 @@ fn first_replaced(table: &Table, findings: &Findings) -> Result<Option<CheckFaul
 
 // The first row that would remove a directory with entries.
 fn first_full(table: &Table, findings: &Findings) -> Result<Option<CheckFault>, Memory>
-    ensures { IfOk result (λ f. f ≡ first_fault (fault.not_empty (sight_in findings.now)) table.now.rows.items) }
+    ensures { IfOk result (λ f. f ≡
+        first_fault (fault.not_empty (sight_in findings.now)) table.now.rows.items) }
 {
     for row in &table.rows {
         if let Some(fault) = not_empty(findings, row)? {
@@ -106,7 +113,10 @@ fn first_unconfirmed(
     confirmed: &Confirmed,
 ) -> Result<Option<CheckFault>, Memory>
     requires { IsTable table.now }
-    ensures { IfOk result (λ f. f ≡ first_fault (fault.unconfirmed (sight_in findings.now) confirmed.now table.now.rows.items) table.now.rows.items) }
+    ensures { IfOk result (λ f. f ≡
+        first_fault
+        (fault.unconfirmed (sight_in findings.now) confirmed.now table.now.rows.items)
+        table.now.rows.items) }
 {
     let confirmations = Confirmations::new(alloc, confirmed)?;
     for row in &table.rows {
@@ -125,8 +135,10 @@ fn too_many_bytes(
 ) -> Result<Option<CheckFault>, Memory>
     requires table { IsTable table.now }
     requires count { length table.now.rows.items ≤ max_changes }
-    requires short { first_fault (fault.across (sight_in findings.now) table.now.rows.items) table.now.rows.items ≡ None }
-    ensures { IfOk result (λ f. f ≡ fault.too_many_bytes (fault.changed_bytes (sight_in findings.now) table.now.rows.items)) }
+    requires short { first_fault
+        (fault.across (sight_in findings.now) table.now.rows.items) table.now.rows.items ≡ None }
+    ensures { IfOk result (λ f. f ≡
+        fault.too_many_bytes (fault.changed_bytes (sight_in findings.now) table.now.rows.items)) }
 {
     let bytes = changed_bytes(alloc, table, findings)?;
     if bytes > MAX_CHANGED_BYTES {
@@ -148,7 +160,11 @@ pub fn file_modes_of(alloc: Global, rows: &[Row], findings: &Findings) -> Result
 
 // Notes the mode that a row names for a file.
 fn note_mode(modes: &mut FileClaims, findings: &Findings, row: &Row) -> Result<(), Memory>
-    ensures { OnOk result ((n : ℕ) → get nat_cmp modes.new.claims n ≡ (if names_mode (sight_in findings.now) n row.now then Some (claimed_by (unwrap_or row.now.mode 0) row.now.line (get nat_cmp modes.old.claims n)) else get nat_cmp modes.old.claims n)) }
+    ensures { OnOk result ((n : ℕ) → get nat_cmp modes.new.claims n ≡
+        (if names_mode (sight_in findings.now) n row.now
+        then Some
+        (claimed_by (unwrap_or row.now.mode 0) row.now.line (get nat_cmp modes.old.claims n))
+        else get nat_cmp modes.old.claims n)) }
 {
     match (file_number(findings, &row.source), row.mode) {
         (Some(number), Some(mode)) => modes.note(number, mode as u32, row.line),

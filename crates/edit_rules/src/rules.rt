@@ -39,9 +39,11 @@ pub fn across(
 ) -> Result<Option<CheckFault>, Memory>
     requires table { IsTable table.now }
     requires standing { IsStanding standing.now findings.now }
-    requires file_modes { AreFileModes (sight_in findings.now) file_modes.now.claims table.now.rows.items }
+    requires file_modes { AreFileModes
+        (sight_in findings.now) file_modes.now.claims table.now.rows.items }
     requires lines { LinesRise table.now.rows.items }
-    ensures { IfOk result (λ f. f ≡ fault.across (sight_in findings.now) table.now.rows.items row.now) }
+    ensures { IfOk result (λ f. f ≡
+        fault.across (sight_in findings.now) table.now.rows.items row.now) }
 {
     if let Some(fault) = reserved(row) {
         return Ok(Some(fault));
@@ -102,7 +104,8 @@ fn mode_clash(
     file_modes: &FileClaims,
     row: &Row,
 ) -> Option<CheckFault>
-    requires file_modes { AreFileModes (sight_in findings.now) file_modes.now.claims table.now.rows.items }
+    requires file_modes { AreFileModes
+        (sight_in findings.now) file_modes.now.claims table.now.rows.items }
     ensures { result ≡ fault.mode_clash (sight_in findings.now) table.now.rows.items row.now }
 {
     let number = file_number(findings, &row.source);
@@ -144,7 +147,8 @@ fn parents(
     requires standing { IsStanding standing.now findings.now }
     requires lines { LinesRise table.now.rows.items }
     requires path { path.now ≡ written_path row.now }
-    ensures { IfOk result (λ f. f ≡ fault.parents (sight_in findings.now) table.now.rows.items row.now) }
+    ensures { IfOk result (λ f. f ≡
+        fault.parents (sight_in findings.now) table.now.rows.items row.now) }
 {
     if !is_elsewhere(row) {
         return Ok(None);
@@ -168,7 +172,9 @@ fn no_directory(
     above: &[Option<&Found>],
 ) -> Result<Option<CheckFault>, Memory>
     requires { length above.now ≡ length path.now }
-    ensures { IfOk result (λ f. f ≡ option_map (faults.ParentNotDirectory row.now.line) (other_in [] path.now (map (option_map (λ f. f.now)) above.now))) }
+    ensures { IfOk result (λ f. f ≡
+        option_map (faults.ParentNotDirectory row.now.line)
+        (other_in [] path.now (map (option_map (λ f. f.now)) above.now))) }
 {
     for at in 0..above.len() {
         if is_other(above[at]) {
@@ -186,7 +192,10 @@ fn moved_parent(
     row: &Row,
     path: &Path,
 ) -> Result<Option<CheckFault>, Memory>
-    ensures { IfOk result (λ f. f ≡ option_map (faults.MovedParent row.now.line) (least_line (λ p. first_line (value_at table.now.movers.claims p)) None (ancestors path.now))) }
+    ensures { IfOk result (λ f. f ≡
+        option_map (faults.MovedParent row.now.line)
+        (least_line (λ p. first_line (value_at table.now.movers.claims p)) None
+        (ancestors path.now))) }
 {
     let movers = table.movers.claims.above(alloc, path)?;
     let other = least(&movers);
@@ -201,7 +210,10 @@ fn parent_taken(
     path: &Path,
     above: &[Option<&Found>],
 ) -> Result<Option<CheckFault>, Memory>
-    ensures { IfOk result (λ f. f ≡ option_map (faults.ParentTaken row.now.line) (least_missing None (map (value_at table.now.writers.claims) (ancestors path.now)) (map (option_map (λ f. f.now)) above.now))) }
+    ensures { IfOk result (λ f. f ≡
+        option_map (faults.ParentTaken row.now.line)
+        (least_missing None (map (value_at table.now.writers.claims) (ancestors path.now))
+        (map (option_map (λ f. f.now)) above.now))) }
 {
     let writers = table.writers.claims.above(alloc, path)?;
     let other = first_missing(None, &writers, above);
@@ -214,7 +226,8 @@ fn first_missing(
     claims: &[Option<&Claim>],
     above: &[Option<&Found>],
 ) -> Option<u32>
-    ensures { result ≡ least_missing so_far (map (option_map (λ c. c.now)) claims.now) (map (option_map (λ f. f.now)) above.now) }
+    ensures { result ≡ least_missing so_far (map (option_map (λ c. c.now)) claims.now)
+        (map (option_map (λ f. f.now)) above.now) }
 {
     match claims {
         [] => so_far,

@@ -34,7 +34,9 @@ pub fn standing(alloc: Global, findings: &Findings) -> Result<PathMap<Found>, Me
 fn note_found(standing: &mut PathMap<Found>, path: &Path, seen: &Option<Seen>) -> Result<(), Memory>
     requires { IsPathMap standing.old }
     ensures map { OnOk result (IsPathMap standing.new) }
-    ensures noted { OnOk result ((p : Names) → value_at standing.new p ≡ option_or (value_at standing.old p) (if is_same_path p path.now then Some (found_as seen.now) else None)) }
+    ensures noted { OnOk result ((p : Names) → value_at standing.new p ≡
+        option_or (value_at standing.old p) (if is_same_path p path.now
+        then Some (found_as seen.now) else None)) }
 {
     if standing.get(path).is_none() {
         standing.set(path, kind_of(seen))?;

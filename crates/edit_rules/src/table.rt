@@ -101,7 +101,9 @@ fn note_route(routes: &mut PathMap<Route>, row: &Row) -> Result<(), Memory>
     requires not_root { IsNoRoot row.now }
     requires map { IsPathMap routes.old }
     ensures map { OnOk result (IsPathMap routes.new) }
-    ensures noted { OnOk result ((p : Names) → value_at routes.new p ≡ option_or (value_at routes.old p) (if is_at p row.now.source then Some (route_to p row.now.to) else None)) }
+    ensures noted { OnOk result ((p : Names) → value_at routes.new p ≡
+        option_or (value_at routes.old p) (if is_at p row.now.source
+        then Some (route_to p row.now.to) else None)) }
 {
     if let Some(source) = &row.source {
         if routes.get(source).is_none() {
@@ -137,7 +139,10 @@ fn movers_of(alloc: Global, rows: &[Row]) -> Result<PathClaims, Memory>
 fn note_mover(movers: &mut PathClaims, row: &Row) -> Result<(), Memory>
     requires { IsPathMap movers.old.claims }
     ensures map { OnOk result (IsPathMap movers.new.claims) }
-    ensures noted { OnOk result ((p : Names) → value_at movers.new.claims p ≡ (if is_moved_by p row.now.source row.now.to then Some (claimed_by row.now.line row.now.line (value_at movers.old.claims p)) else value_at movers.old.claims p)) }
+    ensures noted { OnOk result ((p : Names) → value_at movers.new.claims p ≡
+        (if is_moved_by p row.now.source row.now.to
+        then Some (claimed_by row.now.line row.now.line (value_at movers.old.claims p))
+        else value_at movers.old.claims p)) }
 {
     if let (Some(source), Some(_)) = (&row.source, &row.to) {
         movers.note(source, row.line)?;
@@ -169,7 +174,8 @@ fn removed_of(alloc: Global, rows: &[Row]) -> Result<BTreeSet<Path>, Memory>
 
 // Notes a path, if there is one and it is asked for.
 fn note_path(paths: &mut BTreeSet<Path>, path: &Option<Path>, asked: bool) -> Result<(), Memory>
-    ensures { OnOk result ((p : Names) → contains path_cmp paths.new p ≡ (contains path_cmp paths.old p || asked && is_at p path.now)) }
+    ensures { OnOk result ((p : Names) → contains path_cmp paths.new p ≡
+        (contains path_cmp paths.old p || asked && is_at p path.now)) }
 {
     match path {
         Some(path) if asked => add_path(paths, path),
@@ -179,7 +185,8 @@ fn note_path(paths: &mut BTreeSet<Path>, path: &Option<Path>, asked: bool) -> Re
 
 /// Puts a path into a set.
 pub fn add_path(paths: &mut BTreeSet<Path>, path: &Path) -> Result<(), Memory>
-    ensures { OnOk result ((p : Names) → contains path_cmp paths.new p ≡ (contains path_cmp paths.old p || is_same_path p path.now)) }
+    ensures { OnOk result ((p : Names) → contains path_cmp paths.new p ≡
+        (contains path_cmp paths.old p || is_same_path p path.now)) }
 {
     paths.insert(path.copy()?)?;
     Ok(())

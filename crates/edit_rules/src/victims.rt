@@ -47,7 +47,8 @@ impl Confirmations {
 /// What a row would replace: what stands at its new path, where that is the source of no row.
 pub fn victim<'a>(table: &Table, findings: &Findings, row: &'a Row) -> Option<&'a Path>
     requires { IsTable table.now }
-    ensures { option_map (λ p. p.now) result ≡ fault.victim_of (sight_in findings.now) table.now.rows.items row.now }
+    ensures { option_map (λ p. p.now) result ≡
+        fault.victim_of (sight_in findings.now) table.now.rows.items row.now }
 {
     match &row.to {
         Some(path) if findings.stands(path) && !table.is_source(path) => Some(path),
@@ -62,7 +63,8 @@ pub fn directory_replaced(
     row: &Row,
 ) -> Result<Option<CheckFault>, Memory>
     requires { IsTable table.now }
-    ensures { IfOk result (λ f. f ≡ fault.directory_replaced (sight_in findings.now) table.now.rows.items row.now) }
+    ensures { IfOk result (λ f. f ≡
+        fault.directory_replaced (sight_in findings.now) table.now.rows.items row.now) }
 {
     match victim(table, findings, row) {
         Some(path) if findings.is_dir(path) => {
@@ -94,7 +96,8 @@ pub fn unconfirmed(
 ) -> Result<Option<CheckFault>, Memory>
     requires table { IsTable table.now }
     requires confirmations { AreConfirmations confirmations.now confirmed.now }
-    ensures { IfOk result (λ f. f ≡ fault.unconfirmed (sight_in findings.now) confirmed.now table.now.rows.items row.now) }
+    ensures { IfOk result (λ f. f ≡
+        fault.unconfirmed (sight_in findings.now) confirmed.now table.now.rows.items row.now) }
 {
     match victim(table, findings, row) {
         Some(path) if !confirmations.has(path) => {

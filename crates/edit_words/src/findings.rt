@@ -48,7 +48,8 @@ impl Findings {
         ensures noted { OnOk result (get path_cmp self.new.empty path.now ≡ Some empty) }
         ensures grown { HasGrown self.old self.new }
         ensures found { self.new.found ≡ self.old.found }
-        ensures one { (q : Names) (b : Bool) → get path_cmp self.new.empty q ≡ Some b → ((q ≡ path.now) × (b ≡ empty)) ⊎ (get path_cmp self.old.empty q ≡ Some b) }
+        ensures one { (q : Names) (b : Bool) → get path_cmp self.new.empty q ≡ Some b →
+            ((q ≡ path.now) × (b ≡ empty)) ⊎ (get path_cmp self.old.empty q ≡ Some b) }
     {
         self.empty.insert(path.copy()?, empty)?;
         Ok(())

@@ -35,7 +35,8 @@ fn characters(alloc: Global, text: &str) -> Result<Vec<char>, Memory>
 
 // The tokens of a text, or its first fault, the place counted in characters.
 fn read_tokens(alloc: Global, text: &[char]) -> Result<Vec<Token>, RegexpFault>
-    ensures { MatchResult result (λ tokens. tokens_read text.now ≡ Ok tokens.items) (λ fault. (fault ≡ memory) ⊎ (tokens_read text.now ≡ Err fault)) }
+    ensures { MatchResult result (λ tokens. tokens_read text.now ≡ Ok tokens.items)
+        (λ fault. (fault ≡ memory) ⊎ (tokens_read text.now ≡ Err fault)) }
 {
     let mut tokens = Vec::new(alloc);
     let mut nesting = Nesting { depth: 0, first: 0 };

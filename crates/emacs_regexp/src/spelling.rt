@@ -20,7 +20,8 @@ pub fn spell(alloc: Global, ast: &Ast) -> Result<Text, Memory>
 
 // The pattern, its last character first, as a repeat is met before what it repeats.
 fn spell_backwards(alloc: Global, tokens: &[Token]) -> Result<Backwards, Memory>
-    ensures { (tree : Tree) → Writes tokens.now tree → IfOk result (λ backwards. backwards ≡ spelled tree) }
+    ensures { (tree : Tree) → Writes tokens.now tree →
+        IfOk result (λ backwards. backwards ≡ spelled tree) }
 {
     let mut spelled = Spelled {
         backwards: Backwards::new(alloc),

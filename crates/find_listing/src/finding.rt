@@ -35,7 +35,8 @@ pub fn find<T: Tree>(
     ensures lawful { IfOk result (λ lines. AreFound lines.items) }
     ensures looked { T.Tells → OnlyLooked (failed_in failed_call result) (T.history tree.old) (T.history tree.new)
         (T.fields tree.old) (T.fields tree.new) (T.before_failed tree.old) (T.before_failed tree.new) }
-    ensures faults { T.faults tree.new ≡ faults_with (failed_in failed_call result) (T.faults tree.old) }
+    ensures faults { T.faults tree.new ≡
+        faults_with (failed_in failed_call result) (T.faults tree.old) }
     ensures unchanged { T.changes tree.new ≡ T.changes tree.old }
 {
     let root = Path::root(alloc);
@@ -71,7 +72,8 @@ fn visit<T: Tree>(
     ensures entered { OnOk result (IsEntered path (pending walk.old) (pending walk.new)) }
     ensures looked { T.Tells → OnlyLooked (failed_in failed_call result) (T.history tree.old) (T.history tree.new)
         (T.fields tree.old) (T.fields tree.new) (T.before_failed tree.old) (T.before_failed tree.new) }
-    ensures faults { T.faults tree.new ≡ faults_with (failed_in failed_call result) (T.faults tree.old) }
+    ensures faults { T.faults tree.new ≡
+        faults_with (failed_in failed_call result) (T.faults tree.old) }
     ensures unchanged { T.changes tree.new ≡ T.changes tree.old }
 {
     let meta = meta_at(alloc, tree, &path)?;
@@ -91,7 +93,8 @@ fn add_line(
 ) -> Result<(), Memory>
     requires some { path.now ≢ [] }
     requires lawful { IsMeta meta }
-    ensures lines { OnOk result (lines.new.items ≡ lines.old.items ++ line_if now predicate.now path.now meta) }
+    ensures lines { OnOk result (lines.new.items ≡ lines.old.items
+        ++ line_if now predicate.now path.now meta) }
     ensures added { OnOk result (IsAdded path.now lines.old.items lines.new.items) }
 {
     if is_met(alloc, predicate, path.names(), &meta, now)? {
@@ -108,13 +111,15 @@ fn enter<T: Tree>(
     kind: Kind,
     walk: &mut Walk,
 ) -> Result<(), FindEnd>
-    requires kind { T.Tells → option_map kind_of (get (current_tree (T.history tree.old)) path) ≡ Some kind }
+    requires kind { T.Tells → option_map kind_of (get (current_tree (T.history tree.old)) path) ≡
+        Some kind }
     ensures names { T.Tells → OnOk result (pending walk.new
         ≡ children path (names_in (current_tree (T.history tree.old)) path) ++ pending walk.old) }
     ensures entered { OnOk result (IsEntered path (pending walk.old) (pending walk.new)) }
     ensures looked { T.Tells → OnlyLooked (failed_in failed_call result) (T.history tree.old) (T.history tree.new)
         (T.fields tree.old) (T.fields tree.new) (T.before_failed tree.old) (T.before_failed tree.new) }
-    ensures faults { T.faults tree.new ≡ faults_with (failed_in failed_call result) (T.faults tree.old) }
+    ensures faults { T.faults tree.new ≡
+        faults_with (failed_in failed_call result) (T.faults tree.old) }
     ensures unchanged { T.changes tree.new ≡ T.changes tree.old }
 {
     if kind != Kind::Dir {

@@ -22,7 +22,8 @@ pub(crate) fn meta_at<T: Tree>(alloc: Global, tree: &mut T, path: &Path) -> Resu
     ensures lawful { IfOk result (λ meta. IsMeta meta) }
     ensures looked { T.Tells → OnlyLooked (failed_in failed_call result) (T.history tree.old) (T.history tree.new)
         (T.fields tree.old) (T.fields tree.new) (T.before_failed tree.old) (T.before_failed tree.new) }
-    ensures faults { T.faults tree.new ≡ faults_with (failed_in failed_call result) (T.faults tree.old) }
+    ensures faults { T.faults tree.new ≡
+        faults_with (failed_in failed_call result) (T.faults tree.old) }
     ensures unchanged { T.changes tree.new ≡ T.changes tree.old }
 {
     match tree.meta(alloc, path) {
@@ -39,12 +40,14 @@ pub(crate) fn names_in_dir<T: Tree>(
     dir: &Path,
 ) -> Result<Vec<Name>, FindEnd>
     requires dir { T.Tells → IsDir (current_tree (T.history tree.old)) dir.now }
-    ensures names { T.Tells → IfOk result (λ names. names.items ≡ names_in (current_tree (T.history tree.old)) dir.now) }
+    ensures names { T.Tells → IfOk result (λ names. names.items ≡
+        names_in (current_tree (T.history tree.old)) dir.now) }
     ensures rise { IfOk result (λ names. RiseStrictly names.items) }
     ensures few { IfOk result (λ names. length names.items < 2 ^ 64) }
     ensures looked { T.Tells → OnlyLooked (failed_in failed_call result) (T.history tree.old) (T.history tree.new)
         (T.fields tree.old) (T.fields tree.new) (T.before_failed tree.old) (T.before_failed tree.new) }
-    ensures faults { T.faults tree.new ≡ faults_with (failed_in failed_call result) (T.faults tree.old) }
+    ensures faults { T.faults tree.new ≡
+        faults_with (failed_in failed_call result) (T.faults tree.old) }
     ensures unchanged { T.changes tree.new ≡ T.changes tree.old }
 {
     match tree.names(alloc, dir) {

@@ -111,7 +111,9 @@ fn carry_out(
     meta: &Meta,
     now: i64,
 ) -> Result<(), Memory>
-    ensures { OnOk result ((later : List AnOperation) → run now name.now meta.now (operation.now ∷ later) stack.old ≡ run now name.now meta.now later stack.new) }
+    ensures { OnOk result ((later : List AnOperation) →
+        run now name.now meta.now (operation.now ∷ later) stack.old ≡
+        run now name.now meta.now later stack.new) }
 {
     match operation {
         Operation::Everything => stack.push(true),

@@ -53,7 +53,8 @@ impl Reader {
     // Takes one word more, or answers false where the text can't go on with it.
     fn take(&mut self, alloc: Global, word: &[char]) -> Result<bool, Memory>
         requires { self.old.depth < 2 ^ 63 }
-        ensures goes { IfOk result (λ goes. Goes goes (with_word word.now (state_of self.old)) (state_of self.new)) }
+        ensures goes { IfOk result
+            (λ goes. Goes goes (with_word word.now (state_of self.old)) (state_of self.new)) }
         ensures depth { IfOk result (λ goes. self.new.depth ≤ self.old.depth + 1) }
     {
         match self.due {
@@ -73,7 +74,8 @@ impl Reader {
     // Takes a word where an operand begins.
     fn begin(&mut self, symbol: Symbol) -> Result<bool, Memory>
         requires { self.old.depth < 2 ^ 63 }
-        ensures goes { IfOk result (λ goes. Goes goes (begun symbol self.old.depth self.old.builder) (state_of self.new)) }
+        ensures goes { IfOk result
+            (λ goes. Goes goes (begun symbol self.old.depth self.old.builder) (state_of self.new)) }
         ensures depth { IfOk result (λ goes. self.new.depth ≤ self.old.depth + 1) }
     {
         match symbol {
@@ -99,7 +101,9 @@ impl Reader {
     // Takes a word behind an operand.
     fn go_on(&mut self, symbol: Symbol) -> Result<bool, Memory>
         requires { self.old.depth < 2 ^ 63 }
-        ensures goes { IfOk result (λ goes. Goes goes (gone_on symbol self.old.depth self.old.builder) (state_of self.new)) }
+        ensures goes { IfOk result
+            (λ goes.
+            Goes goes (gone_on symbol self.old.depth self.old.builder) (state_of self.new)) }
         ensures depth { IfOk result (λ goes. self.new.depth ≤ self.old.depth + 1) }
     {
         match symbol {
@@ -131,8 +135,10 @@ impl Reader {
 
     // The predicate, where an operand is complete and no bracket is open.
     fn end(self) -> Result<Predicate, Memory>
-        requires { program_of (expression_of (alternative self.builder).0) ≡ (alternative self.builder).0 }
-        ensures { IfOk result (λ predicate. predicate ≡ expression_of (alternative self.builder).0) }
+        requires { program_of (expression_of (alternative self.builder).0) ≡
+            (alternative self.builder).0 }
+        ensures { IfOk result (λ predicate. predicate ≡
+            expression_of (alternative self.builder).0) }
     {
         let mut builder = self.builder;
         builder.alternative()?;
@@ -220,7 +226,8 @@ fn everything(alloc: Global) -> Result<Predicate, Memory>
 // Takes these words, or answers the first with which the text can't go on.
 fn take_words(alloc: Global, words: &[Word]) -> Result<Reader, FindFault>
     requires { length words.now < 4_294_967_295 }
-    ensures { MatchResult result (λ reader. run_on (Some start) words.now ≡ Some (state_of reader)) (λ fault. StopsAt fault words.now) }
+    ensures { MatchResult result (λ reader. run_on (Some start) words.now ≡ Some (state_of reader))
+        (λ fault. StopsAt fault words.now) }
 {
     let mut reader = Reader::new(alloc);
     let mut rest = words;

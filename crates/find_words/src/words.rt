@@ -70,7 +70,8 @@ impl WordReader {
 
     // Takes one character more.
     fn take(&mut self, c: char) -> Result<(), Memory>
-        ensures { OnOk result ((cs : List ℕ) → words_behind self.old (c ∷ cs) ≡ words_behind self.new cs) }
+        ensures { OnOk result ((cs : List ℕ) → words_behind self.old (c ∷ cs) ≡
+            words_behind self.new cs) }
     {
         match mem::replace(&mut self.place, Place::Between) {
             Place::Between => {

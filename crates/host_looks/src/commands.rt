@@ -58,7 +58,8 @@ pub fn sync_host(alloc: Global) -> Result<Command, AllocError>
 /// Tells the type of the file system of an entry of a directory (GNU coreutils, "stat").
 pub fn system_type(alloc: Global, dir: &str, entry: &str) -> Result<Command, AllocError>
     ensures program { IfOk result (λ c. command_program c ≡ codes "stat") }
-    ensures args { IfOk result (λ c. command_args c ≡ codes "-f" ∷ codes "--printf" ∷ codes "%T" ∷ entry.now ∷ []) }
+    ensures args { IfOk result (λ c. command_args c ≡ codes "-f" ∷ codes "--printf" ∷ codes "%T"
+        ∷ entry.now ∷ []) }
     ensures search { IfOk result (λ c. IsSearchedInSystem c) }
     ensures dir { IfOk result (λ c. command_dir c ≡ Some dir.now) }
 {
@@ -72,7 +73,8 @@ pub fn system_type(alloc: Global, dir: &str, entry: &str) -> Result<Command, All
 /// Tells the owner and the group of an entry of a directory, each by number and by name, each of the four ended by a NUL.
 pub fn owners(alloc: Global, dir: &str, entry: &str) -> Result<Command, AllocError>
     ensures program { IfOk result (λ c. command_program c ≡ codes "stat") }
-    ensures args { IfOk result (λ c. command_args c ≡ codes "--printf" ∷ codes "%u\\0%U\\0%g\\0%G\\0" ∷ entry.now ∷ []) }
+    ensures args { IfOk result (λ c. command_args c ≡ codes "--printf"
+        ∷ codes "%u\\0%U\\0%g\\0%G\\0" ∷ entry.now ∷ []) }
     ensures search { IfOk result (λ c. IsSearchedInSystem c) }
     ensures dir { IfOk result (λ c. command_dir c ≡ Some dir.now) }
 {

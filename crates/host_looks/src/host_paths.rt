@@ -45,7 +45,8 @@ pub struct Place {
 impl Place {
     /// That of a path.
     pub fn of(alloc: Global, names: &[Name]) -> Result<Self, Memory>
-        ensures dir { IfOk result (λ place. string_bytes place.dir ≡ host_text_of (parent names.now)) }
+        ensures dir { IfOk result (λ place. string_bytes place.dir ≡
+            host_text_of (parent names.now)) }
         ensures entry { IfOk result (λ place. string_bytes place.entry ≡ entry_text names.now) }
     {
         match names {

@@ -52,7 +52,8 @@ impl Looks {
         alloc: Global,
         names: &[Name],
     ) -> Result<Option<Found>, LookEnd>
-        ensures text { IfOk result (λ found. IfSome found (λ f. string_bytes f.text ≡ host_text_of names.now)) }
+        ensures text { IfOk result
+            (λ found. IfSome found (λ f. string_bytes f.text ≡ host_text_of names.now)) }
     {
         if let Some((_, above)) = names.split_last() {
             if !self.is_way(rt, alloc, above)? {

@@ -28,7 +28,8 @@ pub fn an_unlinked_row_keeps_its_neighbours<T>(rows: &Rows<T>)
 /// Each list is a list of values: one sequence, which is that of its parts, and to which a push adds its value.
 pub fn a_list_is_of_values<T>(rows: &Rows<T>)
     ensures one { HasOneSequence rows.now }
-    ensures parts { (xs ys : List ℕ) → values_of rows.now (xs ++ ys) ≡ values_of rows.now xs ++ values_of rows.now ys }
+    ensures parts { (xs ys : List ℕ) → values_of rows.now (xs ++ ys) ≡ values_of rows.now xs
+        ++ values_of rows.now ys }
     ensures pushed { (v : T) → PushesValue rows.now v }
 {
     rows.links.are_sound();

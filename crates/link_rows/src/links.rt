@@ -163,7 +163,9 @@ impl Links {
     pub fn splice(&mut self, after: usize, other: usize)
         requires after { after < nodes self.old.0 }
         requires other { other < nodes self.old.0 }
-        ensures net { self.new.0 ≡ (if next_of self.old.0 other == other then self.old.0 else spliced after other self.old.0) }
+        ensures net { self.new.0 ≡
+            (if next_of self.old.0 other == other then self.old.0
+            else spliced after other self.old.0) }
         ensures lists { Splices self.old.0 after other self.new.0 }
         ensures heads { self.new.0.heads ≡ self.old.0.heads }
         ensures nodes { nodes self.new.0 ≡ nodes self.old.0 }

@@ -92,7 +92,8 @@ impl<T> Rows<T> {
     pub fn relink(&mut self, row: RowId)
         requires { row.0 < length self.old.values }
         ensures net { self.new.net ≡ relinked (node self.old.net row.0) self.old.net }
-        ensures lists { CanRelink self.old.net (node self.old.net row.0) → Relinks self.old.net (node self.old.net row.0) self.new.net }
+        ensures lists { CanRelink self.old.net (node self.old.net row.0) →
+            Relinks self.old.net (node self.old.net row.0) self.new.net }
         ensures values { self.new.values ≡ self.old.values }
         ensures heads { self.new.net.heads ≡ self.old.net.heads }
         ensures spare { self.new.spare ≡ self.old.spare }
@@ -107,8 +108,12 @@ impl<T> Rows<T> {
         requires made { list.0 < self.old.net.heads }
         requires other_made { other.0 < self.old.net.heads }
         requires pushed { IfSome after (λ r. r.0 < length self.old.values) }
-        ensures net { self.new.net ≡ (if next_of self.old.net other.0 == other.0 then self.old.net else spliced (place_of self.old.net list.0 (option_map (λ r. r.0) after)) other.0 self.old.net) }
-        ensures lists { Splices self.old.net (place_of self.old.net list.0 (option_map (λ r. r.0) after)) other.0 self.new.net }
+        ensures net { self.new.net ≡
+            (if next_of self.old.net other.0 == other.0 then self.old.net
+            else spliced
+            (place_of self.old.net list.0 (option_map (λ r. r.0) after)) other.0 self.old.net) }
+        ensures lists { Splices self.old.net
+            (place_of self.old.net list.0 (option_map (λ r. r.0) after)) other.0 self.new.net }
         ensures values { self.new.values ≡ self.old.values }
         ensures heads { self.new.net.heads ≡ self.old.net.heads }
         ensures spare { self.new.spare ≡ self.old.spare }
@@ -124,8 +129,10 @@ impl<T> Rows<T> {
         requires other_made { other.0 < self.old.net.heads }
         requires first_pushed { first.0 < length self.old.values }
         requires last_pushed { last.0 < length self.old.values }
-        ensures net { self.new.net ≡ cut_out (node self.old.net first.0) (node self.old.net last.0) other.0 self.old.net }
-        ensures lists { Cuts self.old.net (node self.old.net first.0) (node self.old.net last.0) other.0 self.new.net }
+        ensures net { self.new.net ≡
+            cut_out (node self.old.net first.0) (node self.old.net last.0) other.0 self.old.net }
+        ensures lists { Cuts self.old.net (node self.old.net first.0)
+            (node self.old.net last.0) other.0 self.new.net }
         ensures values { self.new.values ≡ self.old.values }
         ensures heads { self.new.net.heads ≡ self.old.net.heads }
         ensures spare { self.new.spare ≡ self.old.spare }
@@ -169,14 +176,19 @@ impl<T> Rows<T> {
 
     /// A row that is unlinked may be relinked, and all links are then as they were, so all lists are.
     pub fn relink_undoes_unlink(&self, row: RowId)
-        ensures { (l : ℕ) (xs ys : List ℕ) → IsList self.now.net l (xs ++ node self.now.net row.0 ∷ ys) → CanRelink (unlinked (node self.now.net row.0) self.now.net) (node self.now.net row.0) × (relinked (node self.now.net row.0) (unlinked (node self.now.net row.0) self.now.net) ≡ self.now.net) }
+        ensures { (l : ℕ) (xs ys : List ℕ) →
+            IsList self.now.net l (xs ++ node self.now.net row.0 ∷ ys) →
+            CanRelink (unlinked (node self.now.net row.0) self.now.net) (node self.now.net row.0) ×
+            (relinked (node self.now.net row.0) (unlinked (node self.now.net row.0) self.now.net) ≡
+            self.now.net) }
     {
         self.links.are_sound();
     }
 
     /// A list has one sequence of rows.
     pub fn lists_are_sequences(&self)
-        ensures { (l : ℕ) (xs ys : List ℕ) → IsList self.now.net l xs → IsList self.now.net l ys → xs ≡ ys }
+        ensures { (l : ℕ) (xs ys : List ℕ) → IsList self.now.net l xs → IsList self.now.net l ys →
+            xs ≡ ys }
     {}
 
     // The row of a node, or None at a head.
@@ -197,7 +209,8 @@ impl<T> Rows<T> {
     pub fn first(&self, list: ListId) -> Option<RowId>
         requires { list.0 < self.now.net.heads }
         ensures within { IfSome result (λ r. r.0 < length self.now.values) }
-        ensures row { (xs : List ℕ) → IsList self.now.net list.0 xs → option_map (λ r. r.0) result ≡ first_row self.now.net xs }
+        ensures row { (xs : List ℕ) → IsList self.now.net list.0 xs → option_map (λ r. r.0) result ≡
+            first_row self.now.net xs }
     {
         let _count = self.values.len();
         self.row_at(self.links.next(list.0 as usize))
@@ -207,7 +220,9 @@ impl<T> Rows<T> {
     pub fn next(&self, row: RowId) -> Option<RowId>
         requires { row.0 < length self.now.values }
         ensures within { IfSome result (λ r. r.0 < length self.now.values) }
-        ensures row { (l : ℕ) (xs ys : List ℕ) → IsList self.now.net l (xs ++ node self.now.net row.0 ∷ ys) → option_map (λ r. r.0) result ≡ first_row self.now.net ys }
+        ensures row { (l : ℕ) (xs ys : List ℕ) →
+            IsList self.now.net l (xs ++ node self.now.net row.0 ∷ ys) →
+            option_map (λ r. r.0) result ≡ first_row self.now.net ys }
     {
         let node = self.links.heads() + row.0 as usize;
         self.row_at(self.links.next(node))
@@ -223,7 +238,8 @@ impl<T> Rows<T> {
         ensures net { OnOk result (self.new.net ≡ pushed list.0 self.old.net) }
         ensures lists { OnOk result (Pushes self.old.net list.0 self.new.net) }
         ensures row { IfOk result (λ r. r.0 ≡ length self.old.values) }
-        ensures values { self.new.values ≡ (if is_ok result then self.old.values ++ value ∷ [] else self.old.values) }
+        ensures values { self.new.values ≡
+            (if is_ok result then self.old.values ++ value ∷ [] else self.old.values) }
         ensures refused { OnErr result (self.new.net ≡ self.old.net) }
         ensures value_returned { IfErr result (λ e. e.1 ≡ value) }
         ensures heads { self.new.net.heads ≡ self.old.net.heads }

@@ -48,7 +48,8 @@ pub(crate) fn push_minute(text: &mut Vec<u8>, minute: i64) -> Result<(), Memory>
 
 // The date and the time of day that are shown for a minute.
 fn shown_moment(minute: i64) -> Moment
-    ensures text { stamp result.year result.month result.day result.hour result.minute ≡ minute_text minute }
+    ensures text { stamp result.year result.month result.day result.hour result.minute ≡
+        minute_text minute }
     ensures year { result.year < 10000 }
     ensures month { result.month < 100 }
     ensures day { result.day < 100 }

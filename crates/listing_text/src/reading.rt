@@ -110,7 +110,8 @@ pub fn read_head(text: &[u8]) -> Result<Head<'_>, LineFault>
 // The kind behind one space.
 #[tactic(auto, unfolding(crate::specs::Reading::spaced))]
 fn kind_at(bytes: usize, text: &[u8]) -> Result<(Kind, &[u8]), LineFault>
-    ensures { result_map_both (λ t. (t.0, t.1.now)) (λ e. e) result ≡ spaced field_of.Kind one kind_in_text bytes text.now }
+    ensures { result_map_both (λ t. (t.0, t.1.now)) (λ e. e) result ≡
+        spaced field_of.Kind one kind_in_text bytes text.now }
 {
     let rest = behind_one(Field::Kind, bytes, text)?;
     kind_in(rest).ok_or(bad(Field::Kind, bytes, rest))
@@ -119,7 +120,8 @@ fn kind_at(bytes: usize, text: &[u8]) -> Result<(Kind, &[u8]), LineFault>
 // The count of links behind its spaces.
 #[tactic(auto, unfolding(crate::specs::Reading::spaced))]
 fn links_at(bytes: usize, text: &[u8]) -> Result<(u32, &[u8]), LineFault>
-    ensures { result_map_both (λ t. (t.0, t.1.now)) (λ e. e) result ≡ spaced field_of.Links some (number_in_text most_links) bytes text.now }
+    ensures { result_map_both (λ t. (t.0, t.1.now)) (λ e. e) result ≡
+        spaced field_of.Links some (number_in_text most_links) bytes text.now }
 {
     let rest = behind_some(Field::Links, bytes, text)?;
     let (links, later) = number_in(4_294_967_295, rest).ok_or(bad(Field::Links, bytes, rest))?;
@@ -129,7 +131,8 @@ fn links_at(bytes: usize, text: &[u8]) -> Result<(u32, &[u8]), LineFault>
 // The size behind its spaces.
 #[tactic(auto, unfolding(crate::specs::Reading::spaced))]
 fn size_at(bytes: usize, text: &[u8]) -> Result<(u64, &[u8]), LineFault>
-    ensures { result_map_both (λ t. (t.0, t.1.now)) (λ e. e) result ≡ spaced field_of.Size some (number_in_text most_size) bytes text.now }
+    ensures { result_map_both (λ t. (t.0, t.1.now)) (λ e. e) result ≡
+        spaced field_of.Size some (number_in_text most_size) bytes text.now }
 {
     let rest = behind_some(Field::Size, bytes, text)?;
     number_in(18_446_744_073_709_551_615, rest).ok_or(bad(Field::Size, bytes, rest))
@@ -138,7 +141,8 @@ fn size_at(bytes: usize, text: &[u8]) -> Result<(u64, &[u8]), LineFault>
 // Owner or group behind its spaces.
 #[tactic(auto, unfolding(crate::specs::Reading::spaced))]
 fn word_at(field: Field, bytes: usize, text: &[u8]) -> Result<(&str, &[u8]), LineFault>
-    ensures { result_map_both (λ t. (t.0.now, t.1.now)) (λ e. e) result ≡ spaced field some word_in_text bytes text.now }
+    ensures { result_map_both (λ t. (t.0.now, t.1.now)) (λ e. e) result ≡
+        spaced field some word_in_text bytes text.now }
 {
     let rest = behind_some(field, bytes, text)?;
     word_in(rest).ok_or(bad(field, bytes, rest))
@@ -147,7 +151,8 @@ fn word_at(field: Field, bytes: usize, text: &[u8]) -> Result<(&str, &[u8]), Lin
 // The date behind one space.
 #[tactic(auto, unfolding(crate::specs::Reading::spaced))]
 fn date_at(bytes: usize, text: &[u8]) -> Result<(i64, &[u8]), LineFault>
-    ensures { result_map_both (λ t. (t.0, t.1.now)) (λ e. e) result ≡ spaced field_of.Date one date_in_text bytes text.now }
+    ensures { result_map_both (λ t. (t.0, t.1.now)) (λ e. e) result ≡
+        spaced field_of.Date one date_in_text bytes text.now }
 {
     let rest = behind_one(Field::Date, bytes, text)?;
     date_in(rest).ok_or(bad(Field::Date, bytes, rest))

@@ -106,7 +106,8 @@ fn push_line(
     line: &Line,
     widths: &Widths,
 ) -> Result<(), Memory>
-    ensures { OnOk result (text.new.items ≡ text.old.items ++ line_text_of mark line.now widths.now) }
+    ensures { OnOk result (text.new.items ≡ text.old.items
+        ++ line_text_of mark line.now widths.now) }
 {
     push_start(text, mark, line)?;
     push_columns(alloc, text, line, widths)?;

@@ -16,7 +16,9 @@ use std::collections::BTreeMap;
 
 // Adds a path where it is that of a numeric backup.
 fn add(alloc: Global, backups: &mut BTreeMap<Version, Path>, path: &Path) -> Result<(), Memory>
-    ensures { OnOk result (map.from_entries {R = version_cmp} backups.new.entries ≡ with_backup (version_in (joined path.now)) path.now (map.from_entries backups.old.entries)) }
+    ensures { OnOk result (map.from_entries {R = version_cmp} backups.new.entries ≡
+        with_backup (version_in (joined path.now)) path.now
+        (map.from_entries backups.old.entries)) }
 {
     let text = path.text()?;
     let bytes = text.as_str().as_bytes();
@@ -56,7 +58,8 @@ fn sorted(alloc: Global, shown: &[Path]) -> Result<Vec<(Version, Path)>, Memory>
 fn has_older(rows: &[(Version, Path)], at: usize, count: usize) -> bool
     requires sorted { IsStrictlySortedBy version_cmp (keys_of rows.now) }
     requires within { at < length rows.now }
-    ensures { (row : version × Names) → row ≡ slice_index_or rows.now at row → result ≡ nat_le count (older (keys_of rows.now) row.0) }
+    ensures { (row : version × Names) → row ≡ slice_index_or rows.now at row → result ≡
+        nat_le count (older (keys_of rows.now) row.0) }
 {
     count <= at && rows[at - count].0.stem == rows[at].0.stem
 }
@@ -65,7 +68,8 @@ fn has_older(rows: &[(Version, Path)], at: usize, count: usize) -> bool
 fn has_newer(rows: &[(Version, Path)], at: usize, count: usize) -> bool
     requires sorted { IsStrictlySortedBy version_cmp (keys_of rows.now) }
     requires within { at < length rows.now }
-    ensures { (row : version × Names) → row ≡ slice_index_or rows.now at row → result ≡ nat_le count (newer (keys_of rows.now) row.0) }
+    ensures { (row : version × Names) → row ≡ slice_index_or rows.now at row → result ≡
+        nat_le count (newer (keys_of rows.now) row.0) }
 {
     count < rows.len() - at && rows[at + count].0.stem == rows[at].0.stem
 }

@@ -85,7 +85,8 @@ impl MarkMap {
 
     /// Those of these paths that have this mark, or none, in their order.
     pub fn those<'a>(&self, paths: &'a [Path], mark: Option<u8>) -> Result<Vec<&'a Path>, Memory>
-        ensures { IfOk result (λ v. each (λ p. p.now) v.items ≡ filter (has_mark self.now mark) paths.now) }
+        ensures { IfOk result (λ v. each (λ p. p.now) v.items ≡
+            filter (has_mark self.now mark) paths.now) }
     {
         let mut found = Vec::with_capacity(self.alloc, paths.len())?;
         for path in paths {
@@ -99,8 +100,10 @@ impl MarkMap {
     /// Gives each of these paths this mark. After a refusal some of them may have it, and no other path has changed.
     pub fn insert_each(&mut self, paths: &[&Path], mark: u8) -> Result<(), Memory>
         requires { IsMark mark }
-        ensures ok { OnOk result (self.new ≡ with_each (λ _. Some mark) (each (λ p. p.now) paths.now) self.old) }
-        ensures err { OnErr result (with_each (λ _. None) (each (λ p. p.now) paths.now) self.new ≡ with_each (λ _. None) (each (λ p. p.now) paths.now) self.old) }
+        ensures ok { OnOk result (self.new ≡
+            with_each (λ _. Some mark) (each (λ p. p.now) paths.now) self.old) }
+        ensures err { OnErr result (with_each (λ _. None) (each (λ p. p.now) paths.now) self.new ≡
+            with_each (λ _. None) (each (λ p. p.now) paths.now) self.old) }
     {
         for path in paths {
             self.insert(path.copy()?, mark)?;

@@ -10,7 +10,8 @@ use dired_text::{Memory, Path};
 
 // The marks without those of the sources.
 fn departed(marks: &MarkMap, moves: &[(Path, Path)]) -> Result<MarkMap, Memory>
-    ensures { IfOk result (λ m. (q : Names) → get m q ≡ (if is_among q (sources moves.now) then None else get marks.now q)) }
+    ensures { IfOk result (λ m. (q : Names) → get m q ≡
+        (if is_among q (sources moves.now) then None else get marks.now q)) }
 {
     let mut next = marks.copy()?;
     for (source, _destination) in moves {
@@ -21,7 +22,8 @@ fn departed(marks: &MarkMap, moves: &[(Path, Path)]) -> Result<MarkMap, Memory>
 
 // Gives each destination what its source has in `marks`, or no mark.
 fn arrived(mut next: MarkMap, marks: &MarkMap, moves: &[(Path, Path)]) -> Result<MarkMap, Memory>
-    ensures { IfOk result (λ m. (q : Names) → get m q ≡ mark_from marks.now (source_of moves.now q) (get next q)) }
+    ensures { IfOk result (λ m. (q : Names) → get m q ≡
+        mark_from marks.now (source_of moves.now q) (get next q)) }
 {
     for (source, destination) in moves {
         next.put(destination, marks.get(source))?;

@@ -77,8 +77,10 @@ impl Marks {
     /// # Errors
     /// `BadMark` where the byte is no mark; want of memory.
     pub fn set(&mut self, path: Path, mark: u8) -> Result<(), MarkFault>
-        ensures answer { IsOrMemory MarkFault.Memory (ok_if (is_mark_byte mark) MarkFault.BadMark) result }
-        ensures ok { OnOk result (self.new ≡ with_marks self.old (map.insert self.old.marks path mark)) }
+        ensures answer { IsOrMemory MarkFault.Memory
+            (ok_if (is_mark_byte mark) MarkFault.BadMark) result }
+        ensures ok { OnOk result (self.new ≡
+            with_marks self.old (map.insert self.old.marks path mark)) }
         ensures err { OnErr result (self.new ≡ self.old) }
     {
         if !is_mark(mark) {
@@ -126,7 +128,8 @@ impl Marks {
     /// # Errors
     /// Want of memory.
     pub fn toggle(&mut self, shown: &[Path]) -> Result<(), Memory>
-        ensures ok { OnOk result (self.new ≡ with_marks self.old (toggled shown.now self.old.marks)) }
+        ensures ok { OnOk result (self.new ≡
+            with_marks self.old (toggled shown.now self.old.marks)) }
         ensures err { OnErr result (self.new ≡ self.old) }
     {
         // Both are read before any mark changes, so a path that stands twice is changed once.
@@ -146,7 +149,8 @@ impl Marks {
     /// `BadMark` where either byte is no mark.
     pub fn replace(&mut self, old: u8, new: u8) -> Result<(), MarkFault>
         ensures answer { result ≡ ok_if (is_mark_byte old && is_mark_byte new) MarkFault.BadMark }
-        ensures ok { OnOk result (self.new ≡ with_marks self.old (replaced old new self.old.marks)) }
+        ensures ok { OnOk result (self.new ≡
+            with_marks self.old (replaced old new self.old.marks)) }
         ensures err { OnErr result (self.new ≡ self.old) }
     {
         if !is_mark(old) || !is_mark(new) {
@@ -180,7 +184,8 @@ impl Marks {
     /// # Errors
     /// Want of memory.
     pub fn moved(&mut self, pairs: &[(Path, Path)]) -> Result<(), Memory>
-        ensures ok { OnOk result (self.new ≡ with_marks self.old (moved_marks pairs.now self.old.marks)) }
+        ensures ok { OnOk result (self.new ≡
+            with_marks self.old (moved_marks pairs.now self.old.marks)) }
         ensures err { OnErr result (self.new ≡ self.old) }
     {
         self.marks = moved(&self.marks, pairs)?;

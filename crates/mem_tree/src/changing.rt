@@ -32,7 +32,10 @@ pub fn make(
     requires absent { get slots.old names.now ≡ None }
     requires content { content_number content ≡ None }
     requires counted { Counted slots.old files.now }
-    ensures ok { OnOk result (Keep slots.new files.now (insert (tree_in slots.old files.now) names.now (node_of files.now content)) (timed names.now mtime (times_in slots.old))) }
+    ensures ok { OnOk result
+        (Keep slots.new files.now
+        (insert (tree_in slots.old files.now) names.now (node_of files.now content))
+        (timed names.now mtime (times_in slots.old))) }
     ensures err { OnErr result (slots.new ≡ slots.old) }
 {
     slots.insert(names, Slot { content, mtime })
@@ -49,7 +52,10 @@ pub fn make_hard(
     requires absent { get slots.old names.now ≡ None }
     requires counted { Counted slots.old files.old }
     requires known { IsSome (get files.old number) }
-    ensures ok { OnOk result (Keep slots.new files.new (insert (tree_in slots.old files.old) names.now (file_node number (get files.old number))) (timed names.now mtime (times_in slots.old))) }
+    ensures ok { OnOk result
+        (Keep slots.new files.new
+        (insert (tree_in slots.old files.old) names.now (file_node number (get files.old number)))
+        (timed names.now mtime (times_in slots.old))) }
     ensures files { OnOk result (files.new ≡ with_path number files.old) }
     ensures err { OnErr result ((slots.new ≡ slots.old) × (files.new ≡ files.old)) }
 {
@@ -77,7 +83,10 @@ pub fn write_file(
     requires counted { Counted slots.old files.old }
     requires new { get files.old number ≡ None }
     requires one { body.paths ≡ 1 }
-    ensures ok { OnOk result (Keep slots.new files.new (insert (tree_in slots.old files.old) names.now (node.File number body.bytes body.mode)) (timed names.now mtime (times_in slots.old))) }
+    ensures ok { OnOk result
+        (Keep slots.new files.new
+        (insert (tree_in slots.old files.old) names.now (node.File number body.bytes body.mode))
+        (timed names.now mtime (times_in slots.old))) }
     ensures files { OnOk result (files.new ≡ insert files.old number body) }
     ensures err { OnErr result ((slots.new ≡ slots.old) × (files.new ≡ files.old)) }
 {
@@ -101,7 +110,9 @@ pub fn put_node(
     requires absent { get slots.old names.now ≡ None }
     requires counted { Counted slots.old files.old }
     requires fits { IsTrue (fits files.old node.now) }
-    ensures ok { OnOk result (Keep slots.new files.new (insert (tree_in slots.old files.old) names.now node.now) (timed names.now mtime (times_in slots.old))) }
+    ensures ok { OnOk result
+        (Keep slots.new files.new (insert (tree_in slots.old files.old) names.now node.now)
+        (timed names.now mtime (times_in slots.old))) }
     ensures files { OnOk result (files.new ≡ with_node node.now files.old) }
     ensures err { OnErr result ((slots.new ≡ slots.old) × (files.new ≡ files.old)) }
 {
@@ -133,7 +144,9 @@ pub fn put_node(
 fn set_mode(slots: &mut SlotMap, files: &mut FileMap, names: &[Name], mode: u16)
     requires has { HasMode (tree_in slots.old files.old) names.now }
     requires counted { Counted slots.old files.old }
-    ensures { Keep slots.new files.new (set_mode_of (get (tree_in slots.old files.old) names.now) (tree_in slots.old files.old) names.now mode) (times_in slots.old) }
+    ensures { Keep slots.new files.new
+        (set_mode_of (get (tree_in slots.old files.old) names.now)
+        (tree_in slots.old files.old) names.now mode) (times_in slots.old) }
 {
     match number_at(slots, names) {
         Some(number) => files.set_mode(number, mode),
@@ -144,7 +157,8 @@ fn set_mode(slots: &mut SlotMap, files: &mut FileMap, names: &[Name], mode: u16)
 // Takes what stands there out.
 fn remove(slots: &mut SlotMap, files: &mut FileMap, names: &[Name])
     requires counted { Counted slots.old files.old }
-    ensures { Keep slots.new files.new (without (tree_in slots.old files.old) names.now) (timed names.now (pos 0) (times_in slots.old)) }
+    ensures { Keep slots.new files.new (without (tree_in slots.old files.old) names.now)
+        (timed names.now (pos 0) (times_in slots.old)) }
 {
     if let Some(slot) = slots.remove(names) {
         if let Content::File(number) = slot.content {
@@ -164,7 +178,10 @@ fn move_all(
     requires tree { IsTree (tree_in slots.old files.now) }
     requires can { CanRename (tree_in slots.old files.now) from.now to.now }
     requires counted { Counted slots.old files.now }
-    ensures ok { OnOk result (Keep slots.new files.now (renamed (tree_in slots.old files.now) from.now to.now) (λ q. renamed_time (rest_below to.now q) (rest_below from.now q) (times_in slots.old) from.now q)) }
+    ensures ok { OnOk result
+        (Keep slots.new files.now (renamed (tree_in slots.old files.now) from.now to.now)
+        (λ q. renamed_time (rest_below to.now q) (rest_below from.now q)
+        (times_in slots.old) from.now q)) }
     ensures err { OnErr result (slots.new ≡ slots.old) }
 {
     rename(alloc, slots, from, to)
@@ -182,7 +199,9 @@ pub fn apply(
     requires can { CanDo change.now (tree_in slots.old files.old) }
     requires new { FilesBelow next (tree_in slots.old files.old) }
     requires counted { Counted slots.old files.old }
-    ensures ok { OnOk result (Keep slots.new files.new (done change.now next (tree_in slots.old files.old)) (times_after change.now (times_in slots.old))) }
+    ensures ok { OnOk result
+        (Keep slots.new files.new (done change.now next (tree_in slots.old files.old))
+        (times_after change.now (times_in slots.old))) }
     ensures err { OnErr result ((slots.new ≡ slots.old) × (files.new ≡ files.old)) }
 {
     match change {

@@ -20,14 +20,16 @@ pub fn can_make_with_mode(store: &Store, path: &Path, mode: u16) -> bool
 
 /// Whether a link can be made.
 pub fn can_make_link(store: &Store, path: &Path, target: &Text) -> bool
-    ensures { IsTrue result ↔ (CanMake (tree_of store.now) path.now × IsTarget target.now × IsTrue (is_utf8 target.now)) }
+    ensures { IsTrue result ↔
+        (CanMake (tree_of store.now) path.now × IsTarget target.now × IsTrue (is_utf8 target.now)) }
 {
     store.can_make(path) && is_target(target)
 }
 
 /// Whether another path of the file at `old` can be made.
 pub fn can_make_hard(store: &Store, path: &Path, old: &Path) -> bool
-    ensures { IsTrue result ↔ (CanMake (tree_of store.now) path.now × IsFile (tree_of store.now) old.now) }
+    ensures { IsTrue result ↔
+        (CanMake (tree_of store.now) path.now × IsFile (tree_of store.now) old.now) }
 {
     store.can_make(path) && is_kind(store, old, Kind::File)
 }
@@ -62,7 +64,8 @@ fn has_mode(store: &Store, path: &Path) -> bool
 
 /// Whether what stands there can be removed as a file or link.
 pub fn can_remove(store: &Store, path: &Path) -> bool
-    ensures { IsTrue result ↔ (Stands (tree_of store.now) path.now × (IsDir (tree_of store.now) path.now → ⊥)) }
+    ensures { IsTrue result ↔
+        (Stands (tree_of store.now) path.now × (IsDir (tree_of store.now) path.now → ⊥)) }
 {
     match store.kind(path) {
         Some(Kind::File | Kind::Link) => true,
@@ -72,7 +75,9 @@ pub fn can_remove(store: &Store, path: &Path) -> bool
 
 /// Whether the directory there can be removed.
 pub fn can_remove_dir(store: &Store, path: &Path) -> bool
-    ensures { IsTrue result ↔ (IsDir (tree_of store.now) path.now × (path.now ≢ []) × IsEmptyAt (tree_of store.now) path.now) }
+    ensures { IsTrue result ↔
+        (IsDir (tree_of store.now) path.now × (path.now ≢ []) ×
+        IsEmptyAt (tree_of store.now) path.now) }
 {
     if path.names().is_empty() {
         return false;

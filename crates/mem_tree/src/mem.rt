@@ -98,7 +98,8 @@ impl MemTree {
     // A tree that begins with a store, with nothing pending.
     fn began(alloc: Global, store: Store, first_number: u64) -> Result<Self, Memory>
         requires { IsSound (Began (tree_of store) first_number) }
-        ensures { IfOk result (λ m. told m ≡ untouched (Began (tree_of store) first_number) (times_of store)) }
+        ensures { IfOk result (λ m. told m ≡
+            untouched (Began (tree_of store) first_number) (times_of store)) }
     {
         let began = store.copy()?;
         Ok(MemTree {
@@ -124,7 +125,8 @@ impl MemTree {
     /// # Errors
     /// Where memory is refused nothing has changed.
     pub fn fail_changes(&mut self, calls: &[(u64, bool)]) -> Result<(), Memory>
-        ensures ok { OnOk result (told self.new ≡ record (told self.old) { failing_changes = calls.now; changes_made = 0 }) }
+        ensures ok { OnOk result (told self.new ≡
+            record (told self.old) { failing_changes = calls.now; changes_made = 0 }) }
         ensures err { OnErr result (told self.new ≡ told self.old) }
     {
         self.failing_changes = Vec::from_slice(self.alloc, calls)?;
@@ -137,7 +139,8 @@ impl MemTree {
     /// # Errors
     /// Where memory is refused nothing has changed.
     pub fn fail_looks(&mut self, calls: &[u64]) -> Result<(), Memory>
-        ensures ok { OnOk result (told self.new ≡ record (told self.old) { failing_looks = calls.now; looks_made = 0 }) }
+        ensures ok { OnOk result (told self.new ≡
+            record (told self.old) { failing_looks = calls.now; looks_made = 0 }) }
         ensures err { OnErr result (told self.new ≡ told self.old) }
     {
         self.failing_looks = Vec::from_slice(self.alloc, calls)?;
@@ -184,7 +187,8 @@ impl MemTree {
 
     // Fails for want of memory.
     fn run_short(&mut self, call: CallName) -> Failed
-        ensures { told self.new ≡ record (noted call true (told self.old)) { short = raised (told self.old).short } }
+        ensures { told self.new ≡
+            record (noted call true (told self.old)) { short = raised (told self.old).short } }
     {
         self.short = self.short.saturating_add(1);
         self.give_up(call)
@@ -194,7 +198,8 @@ impl MemTree {
     fn look_fails(&mut self) -> bool
         ensures fate { result ≡ next_look_fails (told self.old) }
         ensures store { self.new.store ≡ self.old.store }
-        ensures counted { told self.new ≡ record (told self.old) { looks_made = raised (told self.old).looks_made } }
+        ensures counted { told self.new ≡
+            record (told self.old) { looks_made = raised (told self.old).looks_made } }
     {
         let call = self.looks_made;
         self.looks_made = self.looks_made.saturating_add(1);
@@ -205,7 +210,8 @@ impl MemTree {
     fn next_fate(&mut self) -> Fate
         ensures ok { result.is_ok ≡ not (is_some (next_fate (told self.old))) }
         ensures done { result.is_done ≡ unwrap_or (next_fate (told self.old)) true }
-        ensures counted { self.new ≡ record self.old { changes_made = raised self.old.changes_made } }
+        ensures counted { self.new ≡
+            record self.old { changes_made = raised self.old.changes_made } }
     {
         let call = self.changes_made;
         self.changes_made = self.changes_made.saturating_add(1);
@@ -268,7 +274,8 @@ impl MemTree {
     // What the first calls of the record, so many, made of the tree that it began with.
     fn store_behind(&self, count: usize) -> Result<Store, Memory>
         requires { count ≤ length self.now.attempts.items }
-        ensures { IfOk result (λ s. stand_in s ≡ stand_of (history_first count self.now) (told self.now).times) }
+        ensures { IfOk result (λ s. stand_in s ≡
+            stand_of (history_first count self.now) (told self.now).times) }
     {
         let mut store = self.began.copy()?;
         for attempt in &self.attempts[..count] {
@@ -319,8 +326,10 @@ impl MemTree {
     ) -> Result<Vec<MemTree>, Memory>
         requires whole { EndsAt self.now.next_number whole.now (tree_of base.now) }
         requires empty { empty.now ≡ map emptied_of whole.now }
-        ensures images { IfOk result (λ images. ImagesFor choices.now whole.now (stand_in base.now) images.items) }
-        ensures untouched { IfOk result (λ images. All (IsUntouched self.now.next_number) images.items) }
+        ensures images { IfOk result
+            (λ images. ImagesFor choices.now whole.now (stand_in base.now) images.items) }
+        ensures untouched { IfOk result
+            (λ images. All (IsUntouched self.now.next_number) images.items) }
     {
         let mut images = Vec::new(self.alloc);
         for choice in choices {
@@ -336,7 +345,8 @@ impl MemTree {
     /// twice: with the files that were written whole, and then with them empty.
     pub fn images(&self) -> Result<Vec<MemTree>, Memory>
         ensures images { IfOk result (λ images. ImagesTold self.now images.items) }
-        ensures untouched { IfOk result (λ images. All (IsUntouched (number_told (history_told self.now))) images.items) }
+        ensures untouched { IfOk result
+            (λ images. All (IsUntouched (number_told (history_told self.now))) images.items) }
         ensures crash { IfOk result (λ images. All (MayLeave self.now) images.items) }
     {
         let synced = self.count_before_sync();
@@ -371,7 +381,8 @@ impl Tree for MemTree {
     ghost fields_show = { λ m tells. told_fields (stand_told m).tree (stand_told m).times m.sound.tree m.sound.texts };
 
     fn kind(&mut self, path: &Path) -> Result<Option<Kind>, Failed>
-        ensures kind { IfOk result (λ kind. kind ≡ option_map kind_of (get (tree_told self.old) path.now)) }
+        ensures kind { IfOk result (λ kind. kind ≡
+            option_map kind_of (get (tree_told self.old) path.now)) }
         ensures history { history_told self.new ≡ history_told self.old }
         ensures before_failed { FailedAtTold self.old self.new result }
         ensures fields { fields_told self.new ≡ fields_told self.old }
@@ -388,7 +399,8 @@ impl Tree for MemTree {
 
     fn mode(&mut self, path: &Path) -> Result<u16, Failed>
         requires { HasMode (tree_told self.old) path.now }
-        ensures mode { IfOk result (λ mode. option_map mode_of (get (tree_told self.old) path.now) ≡ Some mode) }
+        ensures mode { IfOk result (λ mode. option_map mode_of (get (tree_told self.old) path.now) ≡
+            Some mode) }
         ensures lawful { IfOk result (λ mode. IsMode mode) }
         ensures history { history_told self.new ≡ history_told self.old }
         ensures before_failed { FailedAtTold self.old self.new result }
@@ -406,7 +418,8 @@ impl Tree for MemTree {
 
     fn is_empty(&mut self, path: &Path) -> Result<bool, Failed>
         requires { IsDir (tree_told self.old) path.now }
-        ensures empty { IfOk result (λ empty. IsTrue empty ↔ IsEmptyAt (tree_told self.old) path.now) }
+        ensures empty { IfOk result (λ empty. IsTrue empty ↔
+            IsEmptyAt (tree_told self.old) path.now) }
         ensures history { history_told self.new ≡ history_told self.old }
         ensures before_failed { FailedAtTold self.old self.new result }
         ensures fields { fields_told self.new ≡ fields_told self.old }
@@ -430,7 +443,8 @@ impl Tree for MemTree {
         ensures fields { fields_told self.new ≡ fields_told self.old }
         ensures unchanged { (told self.new).changes_made ≡ (told self.old).changes_made }
         ensures cause { LookHasCauseTold CallName.Meta self.old self.new result }
-        ensures may_fail { IfErr result (λ end. end ≡ LookEnd.Failed → MayFailAs CallName.Meta self.old self.new) }
+        ensures may_fail { IfErr result (λ end. end ≡ LookEnd.Failed →
+            MayFailAs CallName.Meta self.old self.new) }
         ensures scheduled { LookTold CallName.Meta (look_failed result) self.old self.new }
     {
         if self.look_fails() {
@@ -441,14 +455,16 @@ impl Tree for MemTree {
 
     fn names(&mut self, _alloc: Global, path: &Path) -> Result<Vec<Name>, LookEnd>
         requires { IsDir (tree_told self.old) path.now }
-        ensures names { IfOk result (λ names. names.items ≡ names_in (tree_told self.old) path.now) }
+        ensures names { IfOk result (λ names. names.items ≡
+            names_in (tree_told self.old) path.now) }
         ensures lawful { IfOk result (λ names. RiseStrictly names.items) }
         ensures history { history_told self.new ≡ history_told self.old }
         ensures before_failed { LookFailedAtTold self.old self.new result }
         ensures fields { fields_told self.new ≡ fields_told self.old }
         ensures unchanged { (told self.new).changes_made ≡ (told self.old).changes_made }
         ensures cause { LookHasCauseTold CallName.Names self.old self.new result }
-        ensures may_fail { IfErr result (λ end. end ≡ LookEnd.Failed → MayFailAs CallName.Names self.old self.new) }
+        ensures may_fail { IfErr result (λ end. end ≡ LookEnd.Failed →
+            MayFailAs CallName.Names self.old self.new) }
         ensures scheduled { LookTold CallName.Names (look_failed result) self.old self.new }
     {
         if self.look_fails() {
@@ -466,7 +482,8 @@ impl Tree for MemTree {
         ensures fields { fields_told self.new ≡ fields_told self.old }
         ensures unchanged { (told self.new).changes_made ≡ (told self.old).changes_made }
         ensures cause { ReadHasCauseTold CallName.Read self.old self.new result }
-        ensures may_fail { IfErr result (λ end. end ≡ ReadEnd.Failed → MayFailAs CallName.Read self.old self.new) }
+        ensures may_fail { IfErr result (λ end. end ≡ ReadEnd.Failed →
+            MayFailAs CallName.Read self.old self.new) }
         ensures scheduled { LookTold CallName.Read (read_failed result) self.old self.new }
     {
         if self.look_fails() {
@@ -482,7 +499,8 @@ impl Tree for MemTree {
         ensures counted { (told self.new).changes_made ≡ raised (told self.old).changes_made }
         ensures cause { HasCauseTold CallName.Rename self.old self.new result }
         ensures may_fail { OnErr result (MayFailAs CallName.Rename self.old self.new) }
-        ensures scheduled { ChangeTold CallName.Rename (Change.Rename from.now to.now) self.old self.new result }
+        ensures scheduled { ChangeTold CallName.Rename
+            (Change.Rename from.now to.now) self.old self.new result }
         // what stood takes its fields along
         ensures carried { OnOk result ((p : Names) → Stands (tree_told self.old) p →
             fields_told self.new (moved from.now to.now p) ≡ fields_told self.old p) }
@@ -500,7 +518,8 @@ impl Tree for MemTree {
         ensures counted { (told self.new).changes_made ≡ raised (told self.old).changes_made }
         ensures cause { HasCauseTold CallName.MakeDir self.old self.new result }
         ensures may_fail { OnErr result (MayFailAs CallName.MakeDir self.old self.new) }
-        ensures scheduled { ChangeTold CallName.MakeDir (Change.MakeDir path.now mode) self.old self.new result }
+        ensures scheduled { ChangeTold CallName.MakeDir
+            (Change.MakeDir path.now mode) self.old self.new result }
     {
         match path.copy() {
             Ok(path) => self.change(CallName::MakeDir, Change::MakeDir(path, mode)),
@@ -510,12 +529,14 @@ impl Tree for MemTree {
 
     fn make_link(&mut self, path: &Path, target: &str) -> Result<(), Failed>
         requires { CanDo (Change.MakeLink path.now target.now) (tree_told self.old) }
-        ensures history { PerformsTold (Change.MakeLink path.now target.now) self.old self.new result }
+        ensures history { PerformsTold
+            (Change.MakeLink path.now target.now) self.old self.new result }
         ensures before_failed { FailedAtTold self.old self.new result }
         ensures counted { (told self.new).changes_made ≡ raised (told self.old).changes_made }
         ensures cause { HasCauseTold CallName.MakeLink self.old self.new result }
         ensures may_fail { OnErr result (MayFailAs CallName.MakeLink self.old self.new) }
-        ensures scheduled { ChangeTold CallName.MakeLink (Change.MakeLink path.now target.now) self.old self.new result }
+        ensures scheduled { ChangeTold CallName.MakeLink
+            (Change.MakeLink path.now target.now) self.old self.new result }
     {
         match (path.copy(), Text::copy_of(self.alloc, target)) {
             (Ok(path), Ok(target)) => self.change(
@@ -533,7 +554,8 @@ impl Tree for MemTree {
         ensures counted { (told self.new).changes_made ≡ raised (told self.old).changes_made }
         ensures cause { HasCauseTold CallName.MakeHard self.old self.new result }
         ensures may_fail { OnErr result (MayFailAs CallName.MakeHard self.old self.new) }
-        ensures scheduled { ChangeTold CallName.MakeHard (Change.MakeHard path.now old.now) self.old self.new result }
+        ensures scheduled { ChangeTold CallName.MakeHard
+            (Change.MakeHard path.now old.now) self.old self.new result }
     {
         match (path.copy(), old.copy()) {
             (Ok(path), Ok(old)) => self.change(CallName::MakeHard, Change::MakeHard(path, old)),
@@ -543,12 +565,14 @@ impl Tree for MemTree {
 
     fn write_file(&mut self, path: &Path, bytes: &[u8], mode: u16) -> Result<(), Failed>
         requires { CanDo (Change.WriteFile path.now bytes.now mode) (tree_told self.old) }
-        ensures history { PerformsTold (Change.WriteFile path.now bytes.now mode) self.old self.new result }
+        ensures history { PerformsTold
+            (Change.WriteFile path.now bytes.now mode) self.old self.new result }
         ensures before_failed { FailedAtTold self.old self.new result }
         ensures counted { (told self.new).changes_made ≡ raised (told self.old).changes_made }
         ensures cause { HasCauseTold CallName.WriteFile self.old self.new result }
         ensures may_fail { OnErr result (MayFailAs CallName.WriteFile self.old self.new) }
-        ensures scheduled { ChangeTold CallName.WriteFile (Change.WriteFile path.now bytes.now mode) self.old self.new result }
+        ensures scheduled { ChangeTold CallName.WriteFile
+            (Change.WriteFile path.now bytes.now mode) self.old self.new result }
     {
         match (path.copy(), Bytes::copy_of(self.alloc, bytes)) {
             (Ok(path), Ok(bytes)) => self.change(
@@ -566,7 +590,8 @@ impl Tree for MemTree {
         ensures counted { (told self.new).changes_made ≡ raised (told self.old).changes_made }
         ensures cause { HasCauseTold CallName.SetMode self.old self.new result }
         ensures may_fail { OnErr result (MayFailAs CallName.SetMode self.old self.new) }
-        ensures scheduled { ChangeTold CallName.SetMode (Change.SetMode path.now mode) self.old self.new result }
+        ensures scheduled { ChangeTold CallName.SetMode
+            (Change.SetMode path.now mode) self.old self.new result }
     {
         match path.copy() {
             Ok(path) => self.change(CallName::SetMode, Change::SetMode(path, mode)),
@@ -581,7 +606,8 @@ impl Tree for MemTree {
         ensures counted { (told self.new).changes_made ≡ raised (told self.old).changes_made }
         ensures cause { HasCauseTold CallName.Remove self.old self.new result }
         ensures may_fail { OnErr result (MayFailAs CallName.Remove self.old self.new) }
-        ensures scheduled { ChangeTold CallName.Remove (Change.Remove path.now) self.old self.new result }
+        ensures scheduled { ChangeTold CallName.Remove
+            (Change.Remove path.now) self.old self.new result }
     {
         match path.copy() {
             Ok(path) => self.change(CallName::Remove, Change::Remove(path)),
@@ -596,7 +622,8 @@ impl Tree for MemTree {
         ensures counted { (told self.new).changes_made ≡ raised (told self.old).changes_made }
         ensures cause { HasCauseTold CallName.RemoveDir self.old self.new result }
         ensures may_fail { OnErr result (MayFailAs CallName.RemoveDir self.old self.new) }
-        ensures scheduled { ChangeTold CallName.RemoveDir (Change.RemoveDir path.now) self.old self.new result }
+        ensures scheduled { ChangeTold CallName.RemoveDir
+            (Change.RemoveDir path.now) self.old self.new result }
     {
         match path.copy() {
             Ok(path) => self.change(CallName::RemoveDir, Change::RemoveDir(path)),

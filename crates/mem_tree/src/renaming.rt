@@ -56,7 +56,8 @@ fn moves(alloc: Global, slots: &SlotMap, from: &[Name], to: &[Name]) -> Result<V
 // Puts a copy of each slot at its new names. After a refusal some of them may stand there.
 fn copy_slots(slots: &mut SlotMap, moves: &[Move]) -> Result<(), Memory>
     ensures ok { OnOk result (slots.new ≡ with_copies (pairs_of moves.now) slots.old) }
-    ensures others { (q : Names) → is_target q (pairs_of moves.now) ≡ false → get slots.new q ≡ get slots.old q }
+    ensures others { (q : Names) → is_target q (pairs_of moves.now) ≡ false → get slots.new q ≡
+        get slots.old q }
 {
     for one in moves {
         if let Some(slot) = slots.get(&one.from) {
@@ -90,7 +91,8 @@ fn remove_news(slots: &mut SlotMap, moves: &[Move])
 pub fn rename(alloc: Global, slots: &mut SlotMap, from: &[Name], to: &[Name]) -> Result<(), Memory>
     requires stands { IsSome (get slots.old from.now) }
     requires clear { (r : Names) → get slots.old (to.now ++ r) ≡ None }
-    ensures ok { OnOk result ((q : Names) → get slots.new q ≡ after_move (rest_of to.now q) (rest_of from.now q) (get slots.old) from.now q) }
+    ensures ok { OnOk result ((q : Names) → get slots.new q ≡
+        after_move (rest_of to.now q) (rest_of from.now q) (get slots.old) from.now q) }
     ensures err { OnErr result (slots.new ≡ slots.old) }
 {
     let moves = moves(alloc, slots, from, to)?;

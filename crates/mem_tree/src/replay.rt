@@ -25,7 +25,8 @@ fn replay_call(store: &mut Store, call: &(u64, Change)) -> Result<(), Memory>
 /// What the chosen calls make of a copy of a store.
 pub fn replay(base: &Store, calls: &[(u64, Change)], choice: Choice) -> Result<Store, Memory>
     requires { CanReplay calls.now (tree_of base.now) }
-    ensures { IfOk result (λ s. Replays (picked (takes choice) calls.now) (stand_in base.now) (stand_in s)) }
+    ensures { IfOk result
+        (λ s. Replays (picked (takes choice) calls.now) (stand_in base.now) (stand_in s)) }
 {
     let mut store = base.copy()?;
     for (place, call) in calls.iter().enumerate() {

@@ -175,7 +175,8 @@ impl SlotMap {
     /// The names of the slots at `names` and below them, in their order.
     pub fn below(&self, names: &[Name]) -> Result<Vec<&[Name]>, Memory>
         requires { IsSome (fin.get self.now names.now) }
-        ensures { IfOk result (λ v. map (λ k. k.now) v.items ≡ filter (is_below names.now) (fin.keys self.now)) }
+        ensures { IfOk result (λ v. map (λ k. k.now) v.items ≡
+            filter (is_below names.now) (fin.keys self.now)) }
     {
         let mut found = Vec::new(self.alloc);
         if let Some((first, _)) = self.slots.get_key_value(names) {

@@ -75,8 +75,10 @@ impl Store {
         requires can { CanDo change.now (tree_of self.old) }
         requires new { FilesBelow next (tree_of self.old) }
         ensures done { OnOk result (tree_of self.new ≡ done change.now next (tree_of self.old)) }
-        ensures times { OnOk result (times_of self.new ≡ times_after change.now (times_of self.old)) }
-        ensures err { OnErr result ((tree_of self.new ≡ tree_of self.old) × (times_of self.new ≡ times_of self.old)) }
+        ensures times { OnOk result (times_of self.new ≡
+            times_after change.now (times_of self.old)) }
+        ensures err { OnErr result ((tree_of self.new ≡ tree_of self.old) ×
+            (times_of self.new ≡ times_of self.old)) }
     {
         apply(self.alloc, &mut self.slots, &mut self.files, change, next)
     }
@@ -168,7 +170,8 @@ impl Store {
 
     /// The fields at a path. Where nothing stands, those of an empty directory of mode 0.
     pub fn meta(&self, path: &Path) -> Result<Meta, Memory>
-        ensures { IfOk result (λ meta. meta ≡ fields_of (tree_of self.now) (times_of self.now) path.now) }
+        ensures { IfOk result (λ meta. meta ≡
+            fields_of (tree_of self.now) (times_of self.now) path.now) }
     {
         match self.slots.get(path.names()) {
             Some(slot) => self.meta_of_slot(slot),
@@ -181,7 +184,8 @@ impl Store {
 
     // The fields of a slot.
     fn meta_of_slot(&self, slot: &Slot) -> Result<Meta, Memory>
-        ensures { IfOk result (λ meta. meta ≡ meta_of (tree_of self.now) (node_of self.now.files slot.now.content) slot.now.mtime) }
+        ensures { IfOk result (λ meta. meta ≡
+            meta_of (tree_of self.now) (node_of self.now.files slot.now.content) slot.now.mtime) }
     {
         let content = &slot.content;
         let mtime = slot.mtime;
@@ -234,7 +238,8 @@ impl Store {
         requires absent { IsAbsent (tree_of self.old) path.now }
         requires parent { IsDir (tree_of self.old) (parent_of path.now) }
         requires fits { IsTrue (fits_in self.old.files node.now) }
-        ensures tree { OnOk result (tree_of self.new ≡ insert (tree_of self.old) path.now node.now) }
+        ensures tree { OnOk result (tree_of self.new ≡
+            insert (tree_of self.old) path.now node.now) }
         ensures times { OnOk result (times_of self.new ≡ timed path.now mtime (times_of self.old)) }
         ensures files { OnOk result (self.new.files ≡ with_node node.now self.old.files) }
     {

@@ -44,7 +44,8 @@ fn row_before(
     row: &[bool],
 ) -> Result<Vec<bool>, Memory>
     requires { length row.now ≡ length name.now + 1 }
-    ensures { (pieces : List APiece) → row.now ≡ row_of pieces name.now → IfOk result (λ next. next.items ≡ row_of (piece.now ∷ pieces) name.now) }
+    ensures { (pieces : List APiece) → row.now ≡ row_of pieces name.now →
+        IfOk result (λ next. next.items ≡ row_of (piece.now ∷ pieces) name.now) }
 {
     let mut next = Vec::new(alloc);
     let behind = at(row, 0);
@@ -78,7 +79,8 @@ fn matches_none(piece: &Piece, behind: bool) -> bool
 // Whether a piece and what stands behind it match an end of a name that begins with a character: by whether what stands behind
 // the piece matches the end without that character and with it, and whether both match the end without it.
 fn matches_from(piece: &Piece, c: char, shorter: bool, same: bool, last: bool) -> bool
-    ensures { result ≡ (if is_any_run_piece piece.now then (same || last) else (stands_for_character piece.now c && shorter)) }
+    ensures { result ≡ (if is_any_run_piece piece.now then (same || last)
+        else (stands_for_character piece.now c && shorter)) }
 {
     if is_any_run(piece) {
         same || last

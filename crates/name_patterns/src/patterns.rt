@@ -114,7 +114,9 @@ fn glyphs_of(alloc: Global, text: &[char]) -> Result<Vec<Glyph>, Memory>
 
 // The first glyph of a text and what stands behind it.
 fn first_glyph(text: &[char]) -> Option<(Glyph, &[char])>
-    ensures { MatchOption result (text.now ≡ []) (λ x. (glyphs_of_text text.now ≡ x.0 ∷ glyphs_of_text x.1.now) × (length x.1.now < length text.now)) }
+    ensures { MatchOption result (text.now ≡ [])
+        (λ x. (glyphs_of_text text.now ≡ x.0 ∷ glyphs_of_text x.1.now) ×
+        (length x.1.now < length text.now)) }
 {
     match text {
         ['\\', c, later @ ..] => Some((
@@ -281,7 +283,8 @@ fn has(members: &[Glyph], c: char) -> bool
 
 // Whether the first member, a glyph or a range, has a character; and what stands behind it.
 fn first_member(members: &[Glyph], c: char) -> Option<(bool, &[Glyph])>
-    ensures { MatchOption result (members.now ≡ []) (λ x. (length x.1.now < length members.now) × (has_character c members.now ≡ (x.0 || has_character c x.1.now))) }
+    ensures { MatchOption result (members.now ≡ []) (λ x. (length x.1.now < length members.now) ×
+        (has_character c members.now ≡ (x.0 || has_character c x.1.now))) }
 {
     match members {
         [from, dash, to, later @ ..] if is_mark('-', *dash) => {

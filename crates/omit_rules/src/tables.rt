@@ -25,7 +25,8 @@ pub(crate) fn text_at<'a>(table: &'a Table, key: &str) -> Option<&'a str>
 
 // The items of the array at a key, and none where no array stands there.
 pub(crate) fn items_at<'a>(table: &'a Table, key: &str) -> &'a [Value]
-    ensures { map view result.now ≡ items_of (option_and_then as_array (get_member key.now (table_view table.now))) }
+    ensures { map view result.now ≡
+        items_of (option_and_then as_array (get_member key.now (table_view table.now))) }
 {
     match value_at(table, key) {
         Some(value) => items(value),

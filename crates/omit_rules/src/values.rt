@@ -21,7 +21,8 @@ use toml::{Table, Value};
 // The settings that a table gives whose keys and types are right.
 pub(crate) fn read_values(alloc: Global, table: &Table) -> Result<Settings, SettingsFault>
     ensures faults { Tells (bad_regexps (table_view table.now)) result }
-    ensures values { IfOk result (λ settings. values_of settings ≡ values_in (table_view table.now)) }
+    ensures values { IfOk result (λ settings. values_of settings ≡
+        values_in (table_view table.now)) }
 {
     let omit_regexp = read_omit_regexp(alloc, text_at(table, "omit_regexp"))?;
     let guesses = read_guesses(alloc, guesses(table))?;

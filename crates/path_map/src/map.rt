@@ -50,7 +50,8 @@ impl<V: Drop> PathMap<V> {
     /// # Errors
     /// Want of memory.
     pub fn along(&self, alloc: Global, path: &Path) -> Result<Vec<Option<&V>>, Memory>
-        ensures { IfOk result (λ r. map (option_map (λ v. v.now)) r.items ≡ map (value_at self.now) (firsts path.now)) }
+        ensures { IfOk result (λ r. map (option_map (λ v. v.now)) r.items ≡
+            map (value_at self.now) (firsts path.now)) }
     {
         let mut at = Some(0);
         let mut values = Vec::new(alloc);
@@ -68,7 +69,8 @@ impl<V: Drop> PathMap<V> {
     /// # Errors
     /// Want of memory.
     pub fn above(&self, alloc: Global, path: &Path) -> Result<Vec<Option<&V>>, Memory>
-        ensures { IfOk result (λ r. map (option_map (λ v. v.now)) r.items ≡ map (value_at self.now) (take (length path.now) (firsts path.now))) }
+        ensures { IfOk result (λ r. map (option_map (λ v. v.now)) r.items ≡
+            map (value_at self.now) (take (length path.now) (firsts path.now))) }
     {
         let mut values = self.along(alloc, path)?;
         values.truncate(path.names().len());
@@ -84,7 +86,8 @@ impl<V: Drop> PathMap<V> {
 
     // The value of a number.
     fn value(&self, at: Option<usize>) -> Option<&V>
-        ensures { option_map (λ v. v.now) result ≡ option_and_then (value_of_number self.now.values.items) at }
+        ensures { option_map (λ v. v.now) result ≡
+            option_and_then (value_of_number self.now.values.items) at }
     {
         self.values.get(at?)?.as_ref()
     }
@@ -96,7 +99,8 @@ impl<V: Drop> PathMap<V> {
     pub fn set(&mut self, path: &Path, value: V) -> Result<(), Memory>
         requires { IsPathMap self.old }
         ensures map { OnOk result (IsPathMap self.new) }
-        ensures set { OnOk result ((p : Names) → value_at self.new p ≡ cond (eq_by_cmp path_cmp path.now p) (Some value) (value_at self.old p)) }
+        ensures set { OnOk result ((p : Names) → value_at self.new p ≡
+            cond (eq_by_cmp path_cmp path.now p) (Some value) (value_at self.old p)) }
     {
         let mut at = 0;
         for name in path.names() {
@@ -112,8 +116,10 @@ impl<V: Drop> PathMap<V> {
         requires at { at < length self.old.below.items }
         ensures map { OnOk result (IsPathMap self.new) }
         ensures made { IfOk result (λ next. next < length self.new.below.items) }
-        ensures child { IfOk result (λ next. child_of self.new.below.items at name.now ≡ Some next) }
-        ensures grown { OnOk result ((p : Names) (i : ℕ) → walk self.old.below.items 0 p ≡ Some i → walk self.new.below.items 0 p ≡ Some i) }
+        ensures child { IfOk result (λ next. child_of self.new.below.items at name.now ≡
+            Some next) }
+        ensures grown { OnOk result ((p : Names) (i : ℕ) → walk self.old.below.items 0 p ≡ Some i →
+            walk self.new.below.items 0 p ≡ Some i) }
         ensures kept { OnOk result ((p : Names) → value_at self.new p ≡ value_at self.old p) }
     {
         if let Some(next) = self.child(Some(at), name) {
@@ -130,7 +136,8 @@ impl<V: Drop> PathMap<V> {
     fn link(&mut self, at: usize, name: &Name, next: usize) -> Result<(), Memory>
         requires { at < length self.old.below.items }
         ensures values { self.new.values ≡ self.old.values }
-        ensures linked { OnOk result (IsLinked self.old.below.items self.new.below.items at name.now next) }
+        ensures linked { OnOk result
+            (IsLinked self.old.below.items self.new.below.items at name.now next) }
     {
         self.below[at].insert(name.copy()?, next)?;
         Ok(())
@@ -145,7 +152,8 @@ impl<V: Copy + Drop> PathMap<V> {
     pub fn set_above(&mut self, path: &Path, mark: V) -> Result<(), Memory>
         requires { IsPathMap self.old }
         ensures map { OnOk result (IsPathMap self.new) }
-        ensures set { OnOk result ((p : Names) → value_at self.new p ≡ cond (is_above p path.now) (Some mark) (value_at self.old p)) }
+        ensures set { OnOk result ((p : Names) → value_at self.new p ≡
+            cond (is_above p path.now) (Some mark) (value_at self.old p)) }
     {
         let mut at = 0;
         for name in path.names() {

@@ -7,7 +7,8 @@ ghost use Rattle.plan_moves.specs.Waiting.{HasDifferentLines, Waiting, at_source
 
 /// In whatever order ready changes are carried out, the number of moves is that of the changes that wait and of the knots.
 pub fn planned()
-    ensures { (n : ℕ) (spots : Spots) (ws : List Waiting) (steps : List Step) → HasDifferentLines ws → Moves n spots ws steps → length steps ≡ length ws + knots ws }
+    ensures { (n : ℕ) (spots : Spots) (ws : List Waiting) (steps : List Step) →
+        HasDifferentLines ws → Moves n spots ws steps → length steps ≡ length ws + knots ws }
 {}
 
 /// There are at most as many knots as changes that wait at their sources.

@@ -30,7 +30,9 @@ pub fn read_to(alloc: Global, text: &str, groups: u32) -> Result<Template, ToFau
 
 // The piece that stands first in a text, and the text behind it; None at the end. The text stands at this place.
 fn next_piece(groups: u32, at: u64, text: &str) -> Result<Option<(Piece, &str)>, ToFault>
-    ensures { MatchResult result (λ found. MatchOption found (text.now ≡ []) (λ x. Cuts groups at text.now x.0 x.1.now)) (λ fault. pieces_from groups at (chars text.now) ≡ Err fault) }
+    ensures { MatchResult result
+        (λ found. MatchOption found (text.now ≡ []) (λ x. Cuts groups at text.now x.0 x.1.now))
+        (λ fault. pieces_from groups at (chars text.now) ≡ Err fault) }
 {
     let Some((c, later)) = split_first(text) else {
         return Ok(None);
@@ -68,7 +70,8 @@ fn escape(groups: u32, at: u64, c: char) -> Result<Piece, ToFault>
 
 // The first character and the text behind it.
 fn split_first(text: &str) -> Option<(char, &str)>
-    ensures { MatchOption result (text.now ≡ []) (λ (c, rest). text.now ≡ encode_utf8 c ++ rest.now) }
+    ensures { MatchOption result (text.now ≡ []) (λ (c, rest). text.now ≡ encode_utf8 c
+        ++ rest.now) }
 {
     let mut chars = text.chars();
     match chars.next() {

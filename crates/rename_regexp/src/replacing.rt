@@ -18,7 +18,8 @@ pub fn renamed(
     template: &Template,
     name: &str,
 ) -> Result<Option<Text>, Memory>
-    ensures { IfOk result (λ renamed. renamed ≡ renamed_of (regex_pattern regex.now) template.now name.now) }
+    ensures { IfOk result (λ renamed. renamed ≡
+        renamed_of (regex_pattern regex.now) template.now name.now) }
 {
     let mut matcher = regex.matcher(alloc)?;
     match matcher.captures(name) {
@@ -40,7 +41,8 @@ fn replaced(
     pieces: &[Piece],
 ) -> Result<Text, Memory>
     requires { match_haystack whole.now ≡ name.now }
-    ensures { IfOk result (λ t. t ≡ replaced_at name.now (match_span whole.now) captures.now pieces.now) }
+    ensures { IfOk result (λ t. t ≡
+        replaced_at name.now (match_span whole.now) captures.now pieces.now) }
 {
     let mut text = String::new(alloc);
     text.push_str(&name[..whole.start()])?;
@@ -54,7 +56,8 @@ fn push_pieces(
     captures: &Captures<'_, '_>,
     pieces: &[Piece],
 ) -> Result<(), Memory>
-    ensures { OnOk result (string_bytes text.new ≡ string_bytes text.old ++ flat_map (piece_at captures.now) pieces.now) }
+    ensures { OnOk result (string_bytes text.new ≡ string_bytes text.old
+        ++ flat_map (piece_at captures.now) pieces.now) }
 {
     for piece in pieces {
         push_piece(text, captures, *piece)?;
@@ -63,7 +66,8 @@ fn push_pieces(
 }
 
 fn push_piece(text: &mut String, captures: &Captures<'_, '_>, piece: Piece) -> Result<(), Memory>
-    ensures { OnOk result (string_bytes text.new ≡ string_bytes text.old ++ piece_at captures.now piece) }
+    ensures { OnOk result (string_bytes text.new ≡ string_bytes text.old
+        ++ piece_at captures.now piece) }
 {
     match piece {
         Piece::Char(c) => text.push(c)?,
@@ -74,7 +78,8 @@ fn push_piece(text: &mut String, captures: &Captures<'_, '_>, piece: Piece) -> R
 }
 
 fn push_group(text: &mut String, captures: &Captures<'_, '_>, group: usize) -> Result<(), Memory>
-    ensures { OnOk result (string_bytes text.new ≡ string_bytes text.old ++ group_at captures.now group) }
+    ensures { OnOk result (string_bytes text.new ≡ string_bytes text.old
+        ++ group_at captures.now group) }
 {
     match captures.get(group) {
         Some(part) => {

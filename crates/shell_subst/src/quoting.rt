@@ -56,7 +56,8 @@ fn is_plain(byte: u8) -> bool
 
 // Pushes a text as it stands between single quotes.
 fn push_within_quotes(word: &mut String, text: &str) -> Result<(), Memory>
-    ensures { OnOk result (string_bytes word.new ≡ string_bytes word.old ++ flat_map within_quotes text.now) }
+    ensures { OnOk result (string_bytes word.new ≡ string_bytes word.old
+        ++ flat_map within_quotes text.now) }
 {
     for c in text.chars() {
         match c {

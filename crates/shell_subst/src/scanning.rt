@@ -44,7 +44,9 @@ pub(crate) fn is_blank(token: Token) -> bool
 
 // The first character and the text behind it.
 fn split_first_char(text: &str) -> Option<(char, &str)>
-    ensures { MatchOption result (text.now ≡ []) (λ (c, rest). (text.now ≡ encode_utf8 c ++ rest.now) × (length rest.now < length text.now)) }
+    ensures { MatchOption result (text.now ≡ [])
+        (λ (c, rest). (text.now ≡ encode_utf8 c ++ rest.now) ×
+        (length rest.now < length text.now)) }
 {
     let mut chars = text.chars();
     match chars.next() {
@@ -65,7 +67,8 @@ fn is_blank_next(text: &str) -> bool
 
 // The text behind the rest of a mark, which is a `?` and a backquote.
 fn behind_question(text: &str) -> Option<&str>
-    ensures { MatchOption result ((rest : List ℕ) → text.now ≡ codes "?`" ++ rest → ⊥) (λ rest. text.now ≡ codes "?`" ++ rest.now) }
+    ensures { MatchOption result ((rest : List ℕ) → text.now ≡ codes "?`" ++ rest → ⊥)
+        (λ rest. text.now ≡ codes "?`" ++ rest.now) }
 {
     text.strip_prefix("?`")
 }

@@ -41,7 +41,8 @@ struct Marks {
 /// The first of these that holds: `EmptyCommand` where the text is only whitespace, `NoFiles` where there are no names,
 /// `Both` where the text has marks of both kinds.
 pub fn commands(alloc: Global, text: &str, names: &[Text]) -> Result<Vec<Text>, SubstFault>
-    ensures { MatchResult result (λ texts. substituted text.now names.now ≡ Ok texts.items) (λ e. (e ≡ memory) ⊎ (substituted text.now names.now ≡ Err e)) }
+    ensures { MatchResult result (λ texts. substituted text.now names.now ≡ Ok texts.items)
+        (λ e. (e ≡ memory) ⊎ (substituted text.now names.now ≡ Err e)) }
 {
     if is_only_blanks(text) {
         return Err(SubstFault::EmptyCommand);
@@ -87,7 +88,8 @@ fn marks_in(text: &str) -> Marks
 
 // The commands of a text that has these marks.
 fn runs(alloc: Global, text: &str, names: &[Text], marks: Marks) -> Result<Vec<Text>, Memory>
-    ensures { IfOk result (λ texts. texts.items ≡ runs_of text.now names.now marks.all_names marks.one_name) }
+    ensures { IfOk result (λ texts. texts.items ≡
+        runs_of text.now names.now marks.all_names marks.one_name) }
 {
     if marks.all_names {
         run_of_all(alloc, text, names)
@@ -110,7 +112,8 @@ fn run_of_all(alloc: Global, text: &str, names: &[Text]) -> Result<Vec<Text>, Me
 
 // A run for each name, which stands in the place of each mark.
 fn runs_of_each(alloc: Global, text: &str, names: &[Text]) -> Result<Vec<Text>, Memory>
-    ensures { IfOk result (λ texts. texts.items ≡ map (λ name. filled (quoted name) text.now) names.now) }
+    ensures { IfOk result (λ texts. texts.items ≡
+        map (λ name. filled (quoted name) text.now) names.now) }
 {
     let mut texts = Vec::with_capacity(alloc, names.len())?;
     for name in names {
@@ -122,7 +125,8 @@ fn runs_of_each(alloc: Global, text: &str, names: &[Text]) -> Result<Vec<Text>, 
 
 // A run for each name, which stands behind the text.
 fn runs_with_names_behind(alloc: Global, text: &str, names: &[Text]) -> Result<Vec<Text>, Memory>
-    ensures { IfOk result (λ texts. texts.items ≡ map (λ name. text.now ++ 32 ∷ quoted name) names.now) }
+    ensures { IfOk result (λ texts. texts.items ≡
+        map (λ name. text.now ++ 32 ∷ quoted name) names.now) }
 {
     let mut texts = Vec::with_capacity(alloc, names.len())?;
     for name in names {

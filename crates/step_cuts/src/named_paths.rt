@@ -55,7 +55,8 @@ impl NamedPaths {
     pub(crate) fn add(&mut self, alloc: Global, step: &Step) -> Result<(), Memory>
         requires { HasMaps self.old }
         ensures maps { OnOk result (HasMaps self.new) }
-        ensures paths { OnOk result ((ps : List Names) → Holds ps self.old → Holds (ps ++ paths_of step.now) self.new) }
+        ensures paths { OnOk result ((ps : List Names) → Holds ps self.old →
+            Holds (ps ++ paths_of step.now) self.new) }
     {
         match step {
             Step::MakeDir(path) => self.name(alloc, path),
@@ -71,7 +72,8 @@ impl NamedPaths {
     fn name(&mut self, alloc: Global, path: &Path) -> Result<(), Memory>
         requires { HasMaps self.old }
         ensures maps { OnOk result (HasMaps self.new) }
-        ensures paths { OnOk result ((ps : List Names) → Holds ps self.old → Holds (ps ++ path.now ∷ []) self.new) }
+        ensures paths { OnOk result ((ps : List Names) → Holds ps self.old →
+            Holds (ps ++ path.now ∷ []) self.new) }
     {
         let is_apart = self.is_apart(alloc, path)?;
         self.named.set(path, ())?;
@@ -82,7 +84,8 @@ impl NamedPaths {
 
     // Whether a path is apart from each of these.
     fn is_apart(&self, alloc: Global, path: &Path) -> Result<bool, Memory>
-        ensures { IfOk result (λ b. (ps : List Names) → Holds ps self.now → b ≡ list_all (paths_apart path.now) ps) }
+        ensures { IfOk result (λ b. (ps : List Names) → Holds ps self.now → b ≡
+            list_all (paths_apart path.now) ps) }
     {
         let along = self.named.along(alloc, path)?;
         Ok(are_none(&along) && self.above.get(path).is_none())

@@ -33,7 +33,8 @@ pub enum Seen {
 /// The look of this name failed.
 pub fn look<T: Tree>(tree: &mut T, step: &Step, parents: &Parents) -> Result<Option<Seen>, CallName>
     requires parents { parents.now ≡ parents_of step.now }
-    ensures seen { T.Tells → IfOk result (λ seen. seen ≡ look_of step.now (current_tree (T.history tree.old))) }
+    ensures seen { T.Tells → IfOk result (λ seen. seen ≡
+        look_of step.now (current_tree (T.history tree.old))) }
     ensures looked { T.Tells → OnlyLooked (failed_in (λ call. Some call) result)
         (T.history tree.old) (T.history tree.new) (T.fields tree.old) (T.fields tree.new)
         (T.before_failed tree.old) (T.before_failed tree.new) }
@@ -56,7 +57,8 @@ pub fn look_back<T: Tree>(
     parents: &Parents,
 ) -> Result<Option<Seen>, CallName>
     requires parents { parents.now ≡ parents_of step.now }
-    ensures seen { T.Tells → IfOk result (λ seen. seen ≡ look_back_of step.now (current_tree (T.history tree.old))) }
+    ensures seen { T.Tells → IfOk result (λ seen. seen ≡
+        look_back_of step.now (current_tree (T.history tree.old))) }
     ensures looked { T.Tells → OnlyLooked (failed_in (λ call. Some call) result)
         (T.history tree.old) (T.history tree.new) (T.fields tree.old) (T.fields tree.new)
         (T.before_failed tree.old) (T.before_failed tree.new) }
@@ -71,7 +73,8 @@ pub fn look_back<T: Tree>(
 
 // What stands at a path.
 fn kind_at<T: Tree>(tree: &mut T, path: &Path) -> Result<Option<Kind>, CallName>
-    ensures kind { T.Tells → IfOk result (λ kind. kind ≡ option_map kind_of (get (current_tree (T.history tree.old)) path.now)) }
+    ensures kind { T.Tells → IfOk result (λ kind. kind ≡
+        option_map kind_of (get (current_tree (T.history tree.old)) path.now)) }
     ensures looked { T.Tells → OnlyLooked (failed_in (λ call. Some call) result)
         (T.history tree.old) (T.history tree.new) (T.fields tree.old) (T.fields tree.new)
         (T.before_failed tree.old) (T.before_failed tree.new) }
@@ -85,7 +88,8 @@ fn kind_at<T: Tree>(tree: &mut T, path: &Path) -> Result<Option<Kind>, CallName>
 
 // Whether something stands at a path.
 fn stands<T: Tree>(tree: &mut T, path: &Path) -> Result<bool, CallName>
-    ensures stands { T.Tells → IfOk result (λ stands. stands ≡ is_some (get (current_tree (T.history tree.old)) path.now)) }
+    ensures stands { T.Tells → IfOk result (λ stands. stands ≡
+        is_some (get (current_tree (T.history tree.old)) path.now)) }
     ensures looked { T.Tells → OnlyLooked (failed_in (λ call. Some call) result)
         (T.history tree.old) (T.history tree.new) (T.fields tree.old) (T.fields tree.new)
         (T.before_failed tree.old) (T.before_failed tree.new) }
@@ -96,7 +100,8 @@ fn stands<T: Tree>(tree: &mut T, path: &Path) -> Result<bool, CallName>
 
 // Whether a directory stands at a path.
 fn is_dir<T: Tree>(tree: &mut T, path: &Path) -> Result<bool, CallName>
-    ensures dir { T.Tells → IfOk result (λ dir. dir ≡ is_dir_node (get (current_tree (T.history tree.old)) path.now)) }
+    ensures dir { T.Tells → IfOk result (λ dir. dir ≡
+        is_dir_node (get (current_tree (T.history tree.old)) path.now)) }
     ensures looked { T.Tells → OnlyLooked (failed_in (λ call. Some call) result)
         (T.history tree.old) (T.history tree.new) (T.fields tree.old) (T.fields tree.new)
         (T.before_failed tree.old) (T.before_failed tree.new) }
@@ -113,7 +118,8 @@ fn look_rename<T: Tree>(
     parents: &Parents,
 ) -> Result<Option<Seen>, CallName>
     requires parents { parents.now ≡ parents_of (step_variant.Rename from.now to.now) }
-    ensures seen { T.Tells → IfOk result (λ seen. seen ≡ look_of (step_variant.Rename from.now to.now) (current_tree (T.history tree.old))) }
+    ensures seen { T.Tells → IfOk result (λ seen. seen ≡
+        look_of (step_variant.Rename from.now to.now) (current_tree (T.history tree.old))) }
     ensures looked { T.Tells → OnlyLooked (failed_in (λ call. Some call) result)
         (T.history tree.old) (T.history tree.new) (T.fields tree.old) (T.fields tree.new)
         (T.before_failed tree.old) (T.before_failed tree.new) }
@@ -140,7 +146,8 @@ fn seen_where(holds: bool, seen: Seen) -> Option<Seen>
 // A look at a directory that is to be made.
 fn look_dir<T: Tree>(tree: &mut T, path: &Path, parent: &Path) -> Result<Option<Seen>, CallName>
     requires parent { parent.now ≡ parent_of path.now }
-    ensures seen { T.Tells → IfOk result (λ seen. seen ≡ look_of (step_variant.MakeDir path.now) (current_tree (T.history tree.old))) }
+    ensures seen { T.Tells → IfOk result (λ seen. seen ≡
+        look_of (step_variant.MakeDir path.now) (current_tree (T.history tree.old))) }
     ensures looked { T.Tells → OnlyLooked (failed_in (λ call. Some call) result)
         (T.history tree.old) (T.history tree.new) (T.fields tree.old) (T.fields tree.new)
         (T.before_failed tree.old) (T.before_failed tree.new) }
@@ -159,7 +166,8 @@ fn look_back_dir<T: Tree>(
     parent: &Path,
 ) -> Result<Option<Seen>, CallName>
     requires parent { parent.now ≡ parent_of path.now }
-    ensures seen { T.Tells → IfOk result (λ seen. seen ≡ look_back_of (step_variant.MakeDir path.now) (current_tree (T.history tree.old))) }
+    ensures seen { T.Tells → IfOk result (λ seen. seen ≡
+        look_back_of (step_variant.MakeDir path.now) (current_tree (T.history tree.old))) }
     ensures looked { T.Tells → OnlyLooked (failed_in (λ call. Some call) result)
         (T.history tree.old) (T.history tree.new) (T.fields tree.old) (T.fields tree.new)
         (T.before_failed tree.old) (T.before_failed tree.new) }
@@ -182,7 +190,8 @@ fn look_mode<T: Tree>(
     old: u16,
     new: u16,
 ) -> Result<Option<Seen>, CallName>
-    ensures seen { T.Tells → IfOk result (λ seen. seen ≡ look_of (step_variant.Mode path.now old new) (current_tree (T.history tree.old))) }
+    ensures seen { T.Tells → IfOk result (λ seen. seen ≡
+        look_of (step_variant.Mode path.now old new) (current_tree (T.history tree.old))) }
     ensures looked { T.Tells → OnlyLooked (failed_in (λ call. Some call) result)
         (T.history tree.old) (T.history tree.new) (T.fields tree.old) (T.fields tree.new)
         (T.before_failed tree.old) (T.before_failed tree.new) }

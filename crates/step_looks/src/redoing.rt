@@ -35,7 +35,8 @@ pub fn redo<T: Tree>(
     requires few { from + length steps.now < 2 ^ 64 }
     ensures ran { T.Tells → RanOrLooked (do_calls (to_redo steps.now (current_tree (T.history tree.old))))
         (T.history tree.old) (T.history tree.new) (T.before_failed tree.old) (T.before_failed tree.new) result }
-    ensures strange { T.Tells → IfOk result (λ strange. strange ≡ strange_redo from steps.now (current_tree (T.history tree.old))) }
+    ensures strange { T.Tells → IfOk result (λ strange. strange ≡
+        strange_redo from steps.now (current_tree (T.history tree.old))) }
     ensures faults { NamesFault (T.faults tree.old) (T.faults tree.new) result }
 {
     for k in 0..steps.len() {

@@ -48,7 +48,8 @@ pub fn any_done<T: Tree>(
 ) -> Result<bool, CallName>
     requires steps { AllByRecursion IsStep steps.now }
     requires parents { AreParents steps.now parents.now }
-    ensures any { T.Tells → IfOk result (λ any. any ≡ any_goes_back steps.now (current_tree (T.history tree.old))) }
+    ensures any { T.Tells → IfOk result (λ any. any ≡
+        any_goes_back steps.now (current_tree (T.history tree.old))) }
     ensures looked { T.Tells → OnlyLooked (failed_in (λ call. Some call) result)
         (T.history tree.old) (T.history tree.new) (T.fields tree.old) (T.fields tree.new)
         (T.before_failed tree.old) (T.before_failed tree.new) }
@@ -79,7 +80,8 @@ pub fn undo_strictly<T: Tree>(
     requires few { from + length steps.now < 2 ^ 64 }
     ensures ran { T.Tells → RanOrLooked (undo_calls (to_undo_strictly (reverse steps.now) (current_tree (T.history tree.old))))
         (T.history tree.old) (T.history tree.new) (T.before_failed tree.old) (T.before_failed tree.new) result }
-    ensures strange { T.Tells → IfOk result (λ strange. strange ≡ strange_back from (reverse steps.now) (current_tree (T.history tree.old))) }
+    ensures strange { T.Tells → IfOk result (λ strange. strange ≡
+        strange_back from (reverse steps.now) (current_tree (T.history tree.old))) }
     ensures faults { NamesFault (T.faults tree.old) (T.faults tree.new) result }
 {
     for k in (0..steps.len()).rev() {

@@ -24,11 +24,15 @@ pub fn list_dir<T: Tree>(
     switches: &Switches,
 ) -> Result<Vec<Line>, ListEnd>
     requires dir { T.Tells → IsDir (current_tree (T.history tree.old)) dir.now }
-    ensures lines { T.Tells → IfOk result (λ lines. IsListed switches.now (current_tree (T.history tree.old)) (T.fields tree.old) dir.now lines.items) }
+    ensures lines { T.Tells → IfOk result
+        (λ lines.
+        IsListed switches.now (current_tree (T.history tree.old))
+        (T.fields tree.old) dir.now lines.items) }
     ensures refused { IfErr result (λ end. Refuses end None) }
     ensures looked { T.Tells → OnlyLooked (failed_in failed_call result) (T.history tree.old) (T.history tree.new)
         (T.fields tree.old) (T.fields tree.new) (T.before_failed tree.old) (T.before_failed tree.new) }
-    ensures faults { T.faults tree.new ≡ faults_with (failed_in failed_call result) (T.faults tree.old) }
+    ensures faults { T.faults tree.new ≡
+        faults_with (failed_in failed_call result) (T.faults tree.old) }
     ensures unchanged { T.changes tree.new ≡ T.changes tree.old }
 {
     let names = match tree.names(alloc, dir) {
@@ -49,12 +53,15 @@ fn lines_of<T: Tree>(
     names: &[Name],
     switches: &Switches,
 ) -> Result<Vec<Line>, ListEnd>
-    requires stand { T.Tells → All (λ name. Stands (current_tree (T.history tree.old)) (dir.now ++ name ∷ [])) names.now }
-    ensures lines { T.Tells → IfOk result (λ lines. lines.items ≡ filter_map (line_at (T.fields tree.old) switches.now dir.now) names.now) }
+    requires stand { T.Tells → All
+        (λ name. Stands (current_tree (T.history tree.old)) (dir.now ++ name ∷ [])) names.now }
+    ensures lines { T.Tells → IfOk result (λ lines. lines.items ≡
+        filter_map (line_at (T.fields tree.old) switches.now dir.now) names.now) }
     ensures refused { IfErr result (λ end. Refuses end None) }
     ensures looked { T.Tells → OnlyLooked (failed_in failed_call result) (T.history tree.old) (T.history tree.new)
         (T.fields tree.old) (T.fields tree.new) (T.before_failed tree.old) (T.before_failed tree.new) }
-    ensures faults { T.faults tree.new ≡ faults_with (failed_in failed_call result) (T.faults tree.old) }
+    ensures faults { T.faults tree.new ≡
+        faults_with (failed_in failed_call result) (T.faults tree.old) }
     ensures unchanged { T.changes tree.new ≡ T.changes tree.old }
 {
     let mut lines = Vec::new(alloc);
@@ -74,12 +81,15 @@ fn line_in<T: Tree>(
     name: &Name,
     switches: &Switches,
 ) -> Result<Option<Line>, ListEnd>
-    requires stands { T.Tells → Stands (current_tree (T.history tree.old)) (dir.now ++ name.now ∷ []) }
-    ensures line { T.Tells → IfOk result (λ line. line ≡ line_at (T.fields tree.old) switches.now dir.now name.now) }
+    requires stands { T.Tells → Stands (current_tree (T.history tree.old)) (dir.now ++ name.now
+        ∷ []) }
+    ensures line { T.Tells → IfOk result (λ line. line ≡
+        line_at (T.fields tree.old) switches.now dir.now name.now) }
     ensures refused { IfErr result (λ end. Refuses end None) }
     ensures looked { T.Tells → OnlyLooked (failed_in failed_call result) (T.history tree.old) (T.history tree.new)
         (T.fields tree.old) (T.fields tree.new) (T.before_failed tree.old) (T.before_failed tree.new) }
-    ensures faults { T.faults tree.new ≡ faults_with (failed_in failed_call result) (T.faults tree.old) }
+    ensures faults { T.faults tree.new ≡
+        faults_with (failed_in failed_call result) (T.faults tree.old) }
     ensures unchanged { T.changes tree.new ≡ T.changes tree.old }
 {
     if !switches.all && is_hidden(name) {

@@ -26,12 +26,18 @@ pub fn list_dirs<T: Tree>(
     dirs: &[Path],
     switches: &Switches,
 ) -> Result<Bytes, ListEnd>
-    ensures listing { T.Tells → IfOk result (λ text. IsListing switches.now (current_tree (T.history tree.old)) (T.fields tree.old) dirs.now text) }
-    ensures all { T.Tells → OnOk result (first_other (current_tree (T.history tree.old)) dirs.now ≡ None) }
-    ensures refused { T.Tells → IfErr result (λ end. Refuses end (first_other (current_tree (T.history tree.old)) dirs.now)) }
+    ensures listing { T.Tells → IfOk result
+        (λ text.
+        IsListing switches.now (current_tree (T.history tree.old))
+        (T.fields tree.old) dirs.now text) }
+    ensures all { T.Tells → OnOk result (first_other (current_tree (T.history tree.old)) dirs.now ≡
+        None) }
+    ensures refused { T.Tells → IfErr result
+        (λ end. Refuses end (first_other (current_tree (T.history tree.old)) dirs.now)) }
     ensures looked { T.Tells → OnlyLooked (failed_in failed_call result) (T.history tree.old) (T.history tree.new)
         (T.fields tree.old) (T.fields tree.new) (T.before_failed tree.old) (T.before_failed tree.new) }
-    ensures faults { T.faults tree.new ≡ faults_with (failed_in failed_call result) (T.faults tree.old) }
+    ensures faults { T.faults tree.new ≡
+        faults_with (failed_in failed_call result) (T.faults tree.old) }
     ensures unchanged { T.changes tree.new ≡ T.changes tree.old }
 {
     let paths = paths_of(alloc, tree, dirs)?;
@@ -48,12 +54,16 @@ pub fn list_dirs<T: Tree>(
 // The root and these directories, each once, in the order of their paths.
 fn paths_of<T: Tree>(alloc: Global, tree: &mut T, dirs: &[Path]) -> Result<Vec<Path>, ListEnd>
     ensures paths { IfOk result (λ paths. paths.items ≡ listed_paths dirs.now) }
-    ensures dirs { T.Tells → IfOk result (λ paths. All (λ p. IsDir (current_tree (T.history tree.old)) p) paths.items) }
-    ensures all { T.Tells → OnOk result (first_other (current_tree (T.history tree.old)) dirs.now ≡ None) }
-    ensures refused { T.Tells → IfErr result (λ end. Refuses end (first_other (current_tree (T.history tree.old)) dirs.now)) }
+    ensures dirs { T.Tells → IfOk result
+        (λ paths. All (λ p. IsDir (current_tree (T.history tree.old)) p) paths.items) }
+    ensures all { T.Tells → OnOk result (first_other (current_tree (T.history tree.old)) dirs.now ≡
+        None) }
+    ensures refused { T.Tells → IfErr result
+        (λ end. Refuses end (first_other (current_tree (T.history tree.old)) dirs.now)) }
     ensures looked { T.Tells → OnlyLooked (failed_in failed_call result) (T.history tree.old) (T.history tree.new)
         (T.fields tree.old) (T.fields tree.new) (T.before_failed tree.old) (T.before_failed tree.new) }
-    ensures faults { T.faults tree.new ≡ faults_with (failed_in failed_call result) (T.faults tree.old) }
+    ensures faults { T.faults tree.new ≡
+        faults_with (failed_in failed_call result) (T.faults tree.old) }
     ensures unchanged { T.changes tree.new ≡ T.changes tree.old }
 {
     let mut paths = BTreeSet::new(alloc);
@@ -77,11 +87,13 @@ fn all_of(alloc: Global, paths: BTreeSet<Path>) -> Result<Vec<Path>, Memory>
 
 // Whether a directory stands at a path.
 fn is_dir<T: Tree>(tree: &mut T, path: &Path) -> Result<bool, ListEnd>
-    ensures dir { T.Tells → IfOk result (λ b. b ≡ is_dir_node (get (current_tree (T.history tree.old)) path.now)) }
+    ensures dir { T.Tells → IfOk result (λ b. b ≡
+        is_dir_node (get (current_tree (T.history tree.old)) path.now)) }
     ensures refused { IfErr result (λ end. end ≡ ListEnd.TreeFault CallName.Kind) }
     ensures looked { T.Tells → OnlyLooked (failed_in failed_call result) (T.history tree.old) (T.history tree.new)
         (T.fields tree.old) (T.fields tree.new) (T.before_failed tree.old) (T.before_failed tree.new) }
-    ensures faults { T.faults tree.new ≡ faults_with (failed_in failed_call result) (T.faults tree.old) }
+    ensures faults { T.faults tree.new ≡
+        faults_with (failed_in failed_call result) (T.faults tree.old) }
     ensures unchanged { T.changes tree.new ≡ T.changes tree.old }
 {
     match tree.kind(path) {
@@ -98,11 +110,15 @@ fn section_of<T: Tree>(
     switches: &Switches,
 ) -> Result<Bytes, ListEnd>
     requires dir { T.Tells → IsDir (current_tree (T.history tree.old)) dir.now }
-    ensures section { T.Tells → IfOk result (λ text. IsSection switches.now (current_tree (T.history tree.old)) (T.fields tree.old) dir.now text) }
+    ensures section { T.Tells → IfOk result
+        (λ text.
+        IsSection switches.now (current_tree (T.history tree.old))
+        (T.fields tree.old) dir.now text) }
     ensures refused { IfErr result (λ end. Refuses end None) }
     ensures looked { T.Tells → OnlyLooked (failed_in failed_call result) (T.history tree.old) (T.history tree.new)
         (T.fields tree.old) (T.fields tree.new) (T.before_failed tree.old) (T.before_failed tree.new) }
-    ensures faults { T.faults tree.new ≡ faults_with (failed_in failed_call result) (T.faults tree.old) }
+    ensures faults { T.faults tree.new ≡
+        faults_with (failed_in failed_call result) (T.faults tree.old) }
     ensures unchanged { T.changes tree.new ≡ T.changes tree.old }
 {
     let lines = list_dir(alloc, tree, dir, switches)?;

@@ -43,7 +43,8 @@ impl<R: Files + Processes + AllocGlobal + Drop> Work<R> {
 
     /// Makes an empty directory of this mode.
     pub fn make_dir(&mut self, path: &Path, mode: u16) -> Result<(), LookEnd>
-        ensures noted { OnOk result (IsNoted self.new.touched (parent path.now) × IsNoted self.new.touched path.now) }
+        ensures noted { OnOk result (IsNoted self.new.touched (parent path.now) ×
+            IsNoted self.new.touched path.now) }
         ensures kept { KeepsNotes self.old.touched self.new.touched }
         ensures broken { self.new.broken ≡ self.old.broken }
     {
@@ -121,7 +122,8 @@ impl<R: Files + Processes + AllocGlobal + Drop> Work<R> {
 
     /// Moves what stands at `from` where nothing stands: the host's own call replaces what is there.
     pub fn rename(&mut self, from: &Path, to: &Path) -> Result<(), LookEnd>
-        ensures noted { OnOk result (IsNoted self.new.touched (parent from.now) × IsNoted self.new.touched (parent to.now)) }
+        ensures noted { OnOk result (IsNoted self.new.touched (parent from.now) ×
+            IsNoted self.new.touched (parent to.now)) }
         ensures broken { self.new.broken ≡ self.old.broken }
     {
         let alloc = self.rt.alloc();

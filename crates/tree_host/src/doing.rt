@@ -118,7 +118,8 @@ pub fn rename<R: Files>(
     to: &Path,
 ) -> Result<(), LookEnd>
     requires { IsNoted touched.old (parent from.now) × IsNoted touched.old (parent to.now) }
-    ensures moved { OnOk result (All (λ q. IsNoted touched.new (place_after from.now to.now q)) touched.old.paths.keys) }
+    ensures moved { OnOk result
+        (All (λ q. IsNoted touched.new (place_after from.now to.now q)) touched.old.paths.keys) }
     ensures all { touched.old.all ≡ true → touched.new.all ≡ true }
     ensures refused { IsErr result → touched.new.all ≡ true }
 {

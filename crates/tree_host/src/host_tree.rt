@@ -29,7 +29,8 @@ impl<R: Files + Processes + AllocGlobal + Drop> HostTree<R> {
     /// # Errors
     /// `Failed` where the working directory can't be looked at or opened for reading.
     pub fn open(rt: R) -> Result<Self, Failed>
-        ensures { IfOk result (λ tree. tree.faults ≡ record { count = 0; last = None; last_before = None }) }
+        ensures { IfOk result (λ tree. tree.faults ≡
+            record { count = 0; last = None; last_before = None }) }
     {
         match Work::open(rt) {
             Ok(work) => Ok(HostTree {

@@ -48,7 +48,8 @@ impl Touched {
     pub fn note(&mut self, path: &Path)
         ensures noted { IsNoted self.new path.now }
         ensures kept { KeepsNotes self.old self.new }
-        ensures few { btree_set_len self.old.paths ≤ most_notes → btree_set_len self.new.paths ≤ most_notes }
+        ensures few { btree_set_len self.old.paths ≤ most_notes →
+            btree_set_len self.new.paths ≤ most_notes }
     {
         if self.all || self.paths.contains(path) {
             return;
@@ -73,7 +74,8 @@ impl Touched {
     pub fn note_parent(&mut self, alloc: Global, path: &Path)
         ensures noted { IsNoted self.new (parent path.now) }
         ensures kept { KeepsNotes self.old self.new }
-        ensures few { btree_set_len self.old.paths ≤ most_notes → btree_set_len self.new.paths ≤ most_notes }
+        ensures few { btree_set_len self.old.paths ≤ most_notes →
+            btree_set_len self.new.paths ≤ most_notes }
     {
         match parent_of(alloc, path) {
             Ok(Some(above)) => self.note(&above),
@@ -83,7 +85,8 @@ impl Touched {
 
     /// Notes what stood at or below `from` where it stands now, behind a rename to `to`.
     pub fn moved(&mut self, alloc: Global, from: &Path, to: &Path)
-        ensures moved { All (λ q. IsNoted self.new (place_after from.now to.now q)) self.old.paths.keys }
+        ensures moved { All (λ q. IsNoted self.new (place_after from.now to.now q))
+            self.old.paths.keys }
         ensures all { self.old.all ≡ true → self.new.all ≡ true }
         ensures few { btree_set_len self.new.paths ≤ most_notes }
     {
@@ -97,7 +100,8 @@ impl Touched {
     fn note_moved(&mut self, alloc: Global, path: &Path, from: &Path, to: &Path)
         ensures noted { IsNoted self.new (place_after from.now to.now path.now) }
         ensures kept { KeepsNotes self.old self.new }
-        ensures few { btree_set_len self.old.paths ≤ most_notes → btree_set_len self.new.paths ≤ most_notes }
+        ensures few { btree_set_len self.old.paths ≤ most_notes →
+            btree_set_len self.new.paths ≤ most_notes }
     {
         match moved_path(alloc, path, from, to) {
             Ok(Some(place)) => self.note(&place),

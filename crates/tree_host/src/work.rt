@@ -138,7 +138,8 @@ impl<R: Files + Processes + AllocGlobal + Drop> Work<R> {
     pub fn sync(&mut self) -> Result<(), LookEnd>
         ensures stays_broken { self.old.broken ≡ true → IsErr result }
         ensures breaks { IsErr result → self.new.broken ≡ true }
-        ensures empty { OnOk result (IsEmpty self.new.touched.paths × (self.new.touched.all ≡ false)) }
+        ensures empty { OnOk result (IsEmpty self.new.touched.paths ×
+            (self.new.touched.all ≡ false)) }
     {
         if self.broken {
             return Err(LookEnd::Failed);

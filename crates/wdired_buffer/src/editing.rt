@@ -72,8 +72,10 @@ impl Edited {
 
     // Adds what a line asks for.
     fn push(&mut self, asked: Asked) -> Result<(), Memory>
-        ensures edits { OnOk result (self.new.edits.items ≡ self.old.edits.items ++ option_to_list asked.edit) }
-        ensures emptied { OnOk result (self.new.emptied.items ≡ self.old.emptied.items ++ option_to_list asked.emptied) }
+        ensures edits { OnOk result (self.new.edits.items ≡ self.old.edits.items
+            ++ option_to_list asked.edit) }
+        ensures emptied { OnOk result (self.new.emptied.items ≡ self.old.emptied.items
+            ++ option_to_list asked.emptied) }
     {
         let Asked { edit, emptied } = asked;
         if let Some(edit) = edit {
@@ -108,9 +110,12 @@ impl Passed {
     // Passes the line of this number, whose path no earlier line may show.
     fn pass(&mut self, number: u32, line: &BufferLine) -> Result<(), EditsFault>
         ensures dir { OnOk result (self.new.dir ≡ section self.old.dir (line.now ∷ [])) }
-        ensures shown { OnOk result ((q : Names) → contains path_cmp self.new.shown q ≡ (contains path_cmp self.old.shown q || shows q line.now)) }
+        ensures shown { OnOk result ((q : Names) → contains path_cmp self.new.shown q ≡
+            (contains path_cmp self.old.shown q || shows q line.now)) }
         ensures ok { OnOk result (is_shown (contains path_cmp self.old.shown) line.now ≡ false) }
-        ensures twice { IfErr result (λ e. (e ≡ memory) ⊎ ((e ≡ faulty_line number cause_of.Twice) × (is_shown (contains path_cmp self.old.shown) line.now ≡ true))) }
+        ensures twice { IfErr result
+            (λ e. (e ≡ memory) ⊎ ((e ≡ faulty_line number cause_of.Twice) ×
+            (is_shown (contains path_cmp self.old.shown) line.now ≡ true))) }
     {
         match line {
             BufferLine::Fixed(_) => {}

@@ -205,7 +205,8 @@ fn read_link(
 
 // The path that a name names in a directory's section.
 fn read_source(alloc: Global, number: u32, dir: &Path, name: &[u8]) -> Result<Path, BufferFault>
-    ensures { IsOrMemory memory (or_bad number (cause_of.Line field_of.Name) (named dir.now name.now)) result }
+    ensures { IsOrMemory memory
+        (or_bad number (cause_of.Line field_of.Name) (named dir.now name.now)) result }
 {
     read_path(alloc, dir, name)?.ok_or(bad(number, BufferCause::Line(Field::Name)))
 }

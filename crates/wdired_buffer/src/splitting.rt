@@ -4,7 +4,8 @@ ghost use Rattle.wdired_buffer.specs.Lines.{lines};
 
 /// The first line, without its newline, and what stands behind it. None where the text is empty.
 pub fn split_line(text: &[u8]) -> Option<(&[u8], &[u8])>
-    ensures { MatchOption result (lines text.now ≡ []) (λ p. (lines text.now ≡ p.0.now ∷ lines p.1.now) × (length p.1.now < length text.now)) }
+    ensures { MatchOption result (lines text.now ≡ [])
+        (λ p. (lines text.now ≡ p.0.now ∷ lines p.1.now) × (length p.1.now < length text.now)) }
 {
     if text.is_empty() {
         return None;

@@ -128,7 +128,8 @@ fn typed_target(
     kind: Kind,
     text: Option<&[u8]>,
 ) -> Result<Option<Option<Text>>, Memory>
-    ensures { IfOk result (λ target. target ≡ target_typed kind (option_map (λ t. t.now) text.entry)) }
+    ensures { IfOk result (λ target. target ≡
+        target_typed kind (option_map (λ t. t.now) text.entry)) }
 {
     match kind {
         Kind::File | Kind::Dir => Ok(Some(None)),
