@@ -18,9 +18,9 @@ pub(crate) fn decimal_len(number: u64) -> usize
     len
 }
 
-// The number that a decimal text writes, where it is at most `most`. A leading zero is none but in `0`.
+/// The number that a decimal text writes, where it is at most `most`. Only `0` begins with a zero.
 #[tactic(auto, unfolding(crate::specs::Numbers::number_of))]
-pub(crate) fn read_number(text: &[u8], most: u64) -> Option<u64>
+pub fn read_number(text: &[u8], most: u64) -> Option<u64>
     ensures number { result ≡ number_of most text.now }
     ensures bound { IfSome result (λ n. n ≤ most) }
 {
