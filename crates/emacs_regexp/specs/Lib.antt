@@ -1,4 +1,5 @@
 pub mod Backwards
+pub mod Finders
 pub mod Intervals
 pub mod Places
 pub mod Reading

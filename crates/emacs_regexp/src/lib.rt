@@ -17,6 +17,6 @@ mod token;
 pub use ast::{Ast, groups};
 pub use fault::RegexpFault;
 pub use laws::tokens_write_the_tree;
-pub use matching::found;
+pub use matching::{Finder, found};
 pub use reading::read;
 pub use spelling::spell;
