@@ -1,2 +1,3 @@
+pub mod Renamers
 pub mod Renames
 pub mod Templates

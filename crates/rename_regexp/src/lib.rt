@@ -9,5 +9,5 @@ mod template;
 
 pub use fault::ToFault;
 pub use reading::read_to;
-pub use replacing::renamed;
+pub use replacing::{Renamer, renamed};
 pub use template::Template;

@@ -7,11 +7,54 @@ ghost use Rattle.rename_regexp.specs.Renames.{group_at, piece_at, renamed_of, re
 use crate::Template;
 use crate::template::Piece;
 use dired_text::{Memory, Text};
-use regex::{Captures, Match, Regex};
+use regex::{Captures, Match, Matcher, Regex};
 use std::alloc::Global;
 
+/// What makes the new names of many names by one regexp and one template. One search serves them all.
+#[derive(Drop)]
+pub struct Renamer<'r> {
+    alloc: Global,
+    matcher: Matcher<'r>,
+    template: &'r Template,
+}
+
+impl<'r> Renamer<'r> {
+    ghost use Rattle.rename_regexp.specs.Renamers.{pattern_of, pieces_of};
+
+    /// What replaces the first match of this regexp by what this template stands for there.
+    pub fn new(alloc: Global, regex: &'r Regex, template: &'r Template) -> Result<Self, Memory>
+        ensures pattern { IfOk result (λ renamer. pattern_of renamer ≡ regex_pattern regex.now) }
+        ensures template { IfOk result (λ renamer. pieces_of renamer ≡ template.now) }
+    {
+        let matcher = regex.matcher(alloc)?;
+        Ok(Renamer {
+            alloc,
+            matcher,
+            template,
+        })
+    }
+
+    /// The name with the first match of the regexp replaced by what the template stands for there. A group that took no
+    /// part in the match stands for nothing. None where nothing in the name matches.
+    pub fn renamed(&mut self, name: &str) -> Result<Option<Text>, Memory>
+        ensures renamed { IfOk result (λ renamed. renamed ≡
+            renamed_of (pattern_of self.old) (pieces_of self.old) name.now) }
+        ensures pattern { pattern_of self.new ≡ pattern_of self.old }
+        ensures template { pieces_of self.new ≡ pieces_of self.old }
+    {
+        match self.matcher.captures(name) {
+            Some(captures) => {
+                let whole = captures.get_match();
+                let text = replaced(self.alloc, name, &whole, &captures, self.template.pieces())?;
+                Ok(Some(text))
+            }
+            None => Ok(None),
+        }
+    }
+}
+
 /// The name with the first match of the regexp replaced by what the template stands for there. A group that took no
-/// part in the match stands for nothing. None where nothing in the name matches.
+/// part in the match stands for nothing. None where nothing in the name matches. For many names take a `Renamer`.
 pub fn renamed(
     alloc: Global,
     regex: &Regex,
@@ -21,15 +64,7 @@ pub fn renamed(
     ensures { IfOk result (λ renamed. renamed ≡
         renamed_of (regex_pattern regex.now) template.now name.now) }
 {
-    let mut matcher = regex.matcher(alloc)?;
-    match matcher.captures(name) {
-        Some(captures) => {
-            let whole = captures.get_match();
-            let text = replaced(alloc, name, &whole, &captures, template.pieces())?;
-            Ok(Some(text))
-        }
-        None => Ok(None),
-    }
+    Renamer::new(alloc, regex, template)?.renamed(name)
 }
 
 // The name with the whole match of these captures replaced.
