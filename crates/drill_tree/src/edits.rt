@@ -1,0 +1,53 @@
+// The edits of a drill.
+ghost use Rattle.std.specs.Prelude.{◌≡◌, ◌≤◌, ◌<◌, ◌^◌, IfOk, length};
+ghost use Rattle.drill_tree.specs.Drill.{drill_edits as drill_edits_of, numbered as numbered_from, shown as shown_of};
+ghost use Rattle.drill_tree.specs.Laws.{AreDrillEdits};
+
+use crate::moves::{Move, drill_moves};
+use dired_text::{Memory, Text};
+use std::alloc::Global;
+use tree_core::{Changes, Edit, Items, Kind, Shown};
+
+/// The edits of a drill of so many groups, 20,000 at most, group by group. Their lines are numbered from 1.
+///
+/// # Errors
+/// Want of memory.
+pub fn drill_edits(alloc: Global, groups: u32) -> Result<Changes, Memory>
+    requires { groups ≤ 20000 }
+    ensures edits { IfOk result (λ changes. changes ≡ drill_edits_of groups) }
+    ensures asked { AreDrillEdits groups }
+{
+    let moves = drill_moves(alloc, groups)?;
+    let edits = numbered(alloc, moves)?;
+    Ok(Changes::Edits(Items::from_vec(edits)))
+}
+
+// The edits of these moves, in the lines from 1 on.
+fn numbered(alloc: Global, moves: Vec<Move>) -> Result<Vec<Edit>, Memory>
+    requires { length moves.items < 2 ^ 32 }
+    ensures { IfOk result (λ v. v.items ≡ numbered_from 1 moves.items) }
+{
+    let mut edits = Vec::with_capacity(alloc, moves.len())?;
+    for one in moves {
+        edits.push(Edit {
+            line: edits.len() as u32 + 1,
+            source: one.source,
+            was: shown(alloc, one.is_dir),
+            to: Some(one.to),
+            target: None,
+            mode: None,
+        })?;
+    }
+    Ok(edits)
+}
+
+// What the line of an entry shows.
+fn shown(alloc: Global, is_dir: bool) -> Shown
+    ensures { result ≡ shown_of is_dir }
+{
+    Shown {
+        kind: if is_dir { Kind::Dir } else { Kind::File },
+        mode: if is_dir { 0o755 } else { 0o644 },
+        target: Text::from_string(String::new(alloc)),
+    }
+}
