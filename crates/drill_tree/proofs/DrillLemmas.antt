@@ -284,9 +284,9 @@ module _ (numbers : Names → ℕ) where
     | inr later ↦
         let p = flat_parts (group_entries numbers) (below n) (q, node) later in
         let w = range_parts 0 n p.0 p.1 in
-        as p.0 (omega (arith, w.1)) (group_parts p.0 (q, node) p.2)
+        stood_as p.0 (omega (arith, w.1)) (group_parts p.0 (q, node) p.2)
   ]
     where
-      as : (g : ℕ) → g < n → InGroup g (q, node) → StoodAs n q node
-      as g most (dir is) = group g most (ap (λ (x : Entry). x.0) is) (ap (λ (x : Entry). x.1) is)
-      as g most (inner h c is) = one g h most c (ap (λ (x : Entry). x.0) is) (ap (λ (x : Entry). x.1) is)
+      stood_as : (g : ℕ) → g < n → InGroup g (q, node) → StoodAs n q node
+      stood_as g most (dir is) = group g most (ap (λ (x : Entry). x.0) is) (ap (λ (x : Entry). x.1) is)
+      stood_as g most (inner h c is) = one g h most c (ap (λ (x : Entry). x.0) is) (ap (λ (x : Entry). x.1) is)

@@ -3,6 +3,7 @@ use Rattle.std.proofs.Common.{◌≡◌, ◌≢◌, inl, inr, ℕ, zero, suc, �
 use Rattle.std.specs.List.{AllPairs, flat_map, range_with_len}
 use Rattle.std.proofs.lemmas.Bool.{cases_lt}
 use Rattle.std.proofs.lemmas.List.{append-nil, get_or_default}
+use Rattle.std.proofs.lemmas.List.FromFn.{map-range_with_len_more}
 use Rattle.std.proofs.lemmas.List.Kept.{AllPairs-cons}
 use Rattle.std.proofs.lemmas.List.Elements.{Contains-append_cases}
 use Rattle.edit_laws.proofs.ListLemmas.{contains_head, contains_tail, contains_cases, contains_map, contains_none, map_parts, flat_parts}
@@ -92,3 +93,11 @@ module _ {X : Type 0} where
       let one = few a in
       let rest = flat_few f (a + 1) n few in
       omega (arith, size, one, rest)
+
+map_append : {X Y : Type 0} (f : X → Y) (xs ys : List X) → map f (xs ++ ys) ≡ map f xs ++ map f ys
+map_append f [] ys = refl
+map_append f (x ∷ xs) ys = ap (λ l. f x ∷ l) (map_append f xs ys)
+
+-- a loop over a map that is mapped, one further
+pub map_more : {X Y : Type 0} (h : X → Y) (f : ℕ → X) (n : ℕ) → map h (map f (range_with_len 0 (n + 1))) ≡ map h (map f (range_with_len 0 n)) ++ h (f n) ∷ []
+map_more h f n = ap (map h) (map-range_with_len_more f 0 n n (omega arith)) ∙ map_append h (map f (range_with_len 0 n)) (f n ∷ [])

@@ -65,7 +65,7 @@ no_root_at g line m = (
 
 is_edit : (line g : ℕ) (m : Move) → m.source ≢ m.to → IsEdit (edit_of line (in_dir (group_name g) m))
 is_edit line g m other = record {
-  asks = tt;
+  asks = refl;
   to = λ e. other (sym (same_rest (group_name g) (group_name g) m.to m.source (same_Some (group_name g ∷ m.to) (group_name g ∷ m.source) e)));
   target = λ target e. absurd (none-some target e);
   mode = λ mode e. absurd (none-some mode e);
@@ -92,7 +92,7 @@ asked n few = record {
 -- ---- the bytes of paths
 
 pub slashed-append : (p q : Names) → length (slashed (p ++ q)) ≡ length (slashed p) + length (slashed q)
-slashed-append [] q = refl
+slashed-append [] q = omega arith
 slashed-append (n ∷ p) q =
     let e = slashed-append p q in
     let a = length-append n (slashed (p ++ q)) in
@@ -193,11 +193,11 @@ total_twelve f (x ∷ xs) few =
 
 filter_few : {X : Type 0} (test : X → Bool) (xs : List X) → length (filter test xs) ≤ length xs
 filter_few test [] = omega arith
-filter_few test (x ∷ xs) = choose (test x)
+filter_few test (x ∷ xs) = choose (filter_few test xs) (test x)
   where
-    choose : (b : Bool) → length (cond b (x ∷ filter test xs) (filter test xs)) ≤ length (x ∷ xs)
-    choose true = let a = filter_few test xs in omega (arith, a)
-    choose false = let a = filter_few test xs in omega (arith, a)
+    choose : length (filter test xs) ≤ length xs → (b : Bool) → length (cond b (x ∷ filter test xs) (filter test xs)) ≤ length (x ∷ xs)
+    choose few true = omega (arith, few)
+    choose few false = omega (arith, few)
 
 pub above_few : (u w : Names) → IsAbove u w → length (slashed u) ≤ length (slashed w)
 above_few u w above =

@@ -41,7 +41,7 @@ unfolding first_byte
 not_staging g p q e = let byte : 46 ≡ 103 = ap first_byte (same_first _ (group_name g) [] q e) in omega (arith, byte)
 
 unstaged_at : (g : ℕ) (p : Names) → IsStagedAt (Some (group_name g ∷ p)) → ⊥
-unstaged_at g p (q, is, below) = subst (λ (x : Names). IsTrue (is_below staging x)) (sym (same_Some (group_name g ∷ p) q is)) below
+unstaged_at g p (q, is, below) = let never : false ≡ true = subst (λ (x : Names). IsTrue (is_below staging x)) (sym (same_Some (group_name g ∷ p) q is)) below in cc
 
 -- the directory of a path in a group
 parent_in : (n : List ℕ) (p : Names) → 1 ≤ length p → parent (n ∷ p) ≡ n ∷ parent p
@@ -153,7 +153,7 @@ module _ (numbers : Names → ℕ) (n : ℕ) where
       )
 
   dir_at : (q : Names) → get Tree q ≡ Some (Dir 0o755) → IsDir Tree q
-  dir_at q e = subst (λ (o : Option Node). IsTrue (is_dir_node o)) (sym e) tt
+  dir_at q e = subst (λ (o : Option Node). IsTrue (is_dir_node o)) (sym e) refl
 
   -- in the path of a move, what is above it in its group is a directory
   parent_at : (g : ℕ) (m : Move) (u : Names) → g < n → Contains (moves (group_of g)) m → IsAbove u (group_name g ∷ m.to) → Stands Tree u → IsDir Tree u
@@ -169,7 +169,7 @@ module _ (numbers : Names → ℕ) (n : ℕ) where
           let cx' : Contains (held (group_of g)) x = subst (λ (k : ℕ). Contains (held (group_of k)) x) same cx in
           let fine = and_parts (not (is_above x.path m.to) || x.is_dir) _ (((law g).good m c).fine x cx') in
           let up : is_above x.path m.to ≡ true = (above_decides x.path m.to).1 (above.0, above.1, inner) in
-          let is_dir : x.is_dir ≡ true = elim (or_cases (not (is_above x.path m.to)) x.is_dir fine.0) [ inl no ↦ absurd (not_both (is_above x.path m.to) no up) | inr yes ↦ yes ] in
+          let is_dir : x.is_dir ≡ true = elim (or_cases (not (is_above x.path m.to)) x.is_dir fine.0) [ inl low ↦ absurd (not_both (is_above x.path m.to) low up) | inr high ↦ high ] in
           subst (IsDir Tree) (sym e) (dir_at (group_name h ∷ x.path)
           (held_here numbers n h x less cx ∙ ap (λ (b : Bool). Some (node_of numbers (group_name h ∷ x.path) b)) is_dir))
 
@@ -180,7 +180,7 @@ module _ (numbers : Names → ℕ) (n : ℕ) where
     where
       not_file : (b : Bool) (p : Names) → get Tree (group_name g ∷ m.to) ≡ Some (node_of numbers p b) → b ≡ true
       not_file true p e = refl
-      not_file false p e = absurd (subst (λ (o : Option Node). IsTrue (is_dir_node o)) e dir)
+      not_file false p e = let never : false ≡ true = subst (λ (o : Option Node). IsTrue (is_dir_node o)) e dir in cc
 
       of : (node : Node) → StoodAs numbers n (group_name g ∷ m.to) node → is_source Rows (group_name g ∷ m.to) ≡ true
       of node (root e is) = absurd (not_root (group_name g) m.to e)
@@ -199,8 +199,8 @@ module _ (numbers : Names → ℕ) (n : ℕ) where
           let both : (x.is_dir && is_same_path x.path m.to) ≡ true =
               rw is_dir (subst (λ (p : Names). is_same_path x.path p ≡ true) inner (same_itself x.path)) in
           let left : is_source_of (group_of g) m.to ≡ true = elim (or_cases (not (x.is_dir && is_same_path x.path m.to)) (is_source_of (group_of g) m.to) fine.1) [
-            | inl no ↦ absurd (not_both (x.is_dir && is_same_path x.path m.to) no both)
-            | inr yes ↦ yes
+            | inl other ↦ absurd (not_both (x.is_dir && is_same_path x.path m.to) other both)
+            | inr leaves ↦ leaves
           ] in
           is_left n g m.to most left
 

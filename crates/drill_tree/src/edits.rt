@@ -1,7 +1,7 @@
 // The edits of a drill.
 ghost use Rattle.std.specs.Prelude.{◌≡◌, ◌≤◌, ◌<◌, ◌^◌, IfOk, length};
 ghost use Rattle.drill_tree.specs.Drill.{drill_edits as drill_edits_of, numbered as numbered_from, shown as shown_of};
-ghost use Rattle.drill_tree.specs.Laws.{AreDrillEdits};
+ghost use Rattle.edit_words.specs.WellFormed.{AreAsked};
 
 use crate::moves::{Move, drill_moves};
 use dired_text::{Memory, Text};
@@ -15,7 +15,7 @@ use tree_core::{Changes, Edit, Items, Kind, Shown};
 pub fn drill_edits(alloc: Global, groups: u32) -> Result<Changes, Memory>
     requires { groups ≤ 20000 }
     ensures edits { IfOk result (λ changes. changes ≡ drill_edits_of groups) }
-    ensures asked { AreDrillEdits groups }
+    ensures asked { IfOk result (λ changes. AreAsked changes) }
 {
     let moves = drill_moves(alloc, groups)?;
     let edits = numbered(alloc, moves)?;

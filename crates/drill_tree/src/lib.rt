@@ -3,8 +3,10 @@
 
 mod edits;
 mod group;
+mod laws;
 mod moves;
 
 pub use edits::drill_edits;
 pub use group::Group;
+pub use laws::drills_can_be_made;
 pub use moves::Move;

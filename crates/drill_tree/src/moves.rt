@@ -1,6 +1,6 @@
 // The moves of the edits of a drill.
-ghost use Rattle.std.specs.Prelude.{◌≡◌, ◌++◌, ◌<◌, ◌≤◌, ◌∷◌, [], IfOk, IsTrue, OnOk, codes, length, map};
-ghost use Rattle.dired_text.specs.Paths.{is_name};
+ghost use Rattle.std.specs.Prelude.{◌≡◌, ◌++◌, ◌<◌, ◌≤◌, ◌∷◌, [], IfOk, IsTrue, OnOk, codes, map};
+ghost use Rattle.dired_text.specs.Paths.{is_name, max_path_bytes, path_bytes};
 ghost use Rattle.drill_tree.specs.declared.group.Group.TheVariants as group;
 ghost use Rattle.drill_tree.specs.Drill.{drill_moves as drill_moves_of, group_moves, in_dir};
 ghost use Rattle.drill_tree.specs.Groups.{cycle_name as cycle_name_of, moves as moves_of, moves_directory, moves_file, one};
@@ -60,11 +60,27 @@ fn add_cycle(alloc: Global, moves: &mut Vec<Move>, dir: &Name, len: u32) -> Resu
         map (in_dir dir.now) (moves_of (group.Cycle len))) }
 {
     for number in 0..len {
-        let source = cycle_name(alloc, number)?;
-        let to = cycle_name(alloc, (number + 1) % len)?;
-        add_file(alloc, moves, dir, source.as_str(), to.as_str())?;
+        add_turn(alloc, moves, dir, number, (number + 1) % len)?;
     }
     Ok(())
+}
+
+// Adds the move of one file of a cycle to the name of another.
+fn add_turn(
+    alloc: Global,
+    moves: &mut Vec<Move>,
+    dir: &Name,
+    number: u32,
+    next: u32,
+) -> Result<(), Memory>
+    requires number { number ≤ 9 }
+    requires next { next ≤ 9 }
+    ensures { OnOk result (moves.new.items ≡ moves.old.items ++
+        in_dir dir.now (moves_file (one (cycle_name_of number)) (one (cycle_name_of next))) ∷ []) }
+{
+    let source = cycle_name(alloc, number)?;
+    let to = cycle_name(alloc, next)?;
+    add_file(alloc, moves, dir, source.as_str(), to.as_str())
 }
 
 fn add_nested(alloc: Global, moves: &mut Vec<Move>, dir: &Name) -> Result<(), Memory>
@@ -141,7 +157,7 @@ fn path_of_one(alloc: Global, dir: &Name, name: &str) -> Result<Path, Memory>
     requires name { IsTrue (is_name name.now) }
     ensures { IfOk result (λ p. p ≡ dir.now ∷ name.now ∷ []) }
 {
-    let names = [dir.copy()?, known_name(alloc, name)?];
+    let names = [known_name(alloc, dir.as_str())?, known_name(alloc, name)?];
     known_path(alloc, &names)
 }
 
@@ -151,13 +167,17 @@ fn path_of_two(alloc: Global, dir: &Name, inner: &str, name: &str) -> Result<Pat
     requires name { IsTrue (is_name name.now) }
     ensures { IfOk result (λ p. p ≡ dir.now ∷ inner.now ∷ name.now ∷ []) }
 {
-    let names = [dir.copy()?, known_name(alloc, inner)?, known_name(alloc, name)?];
+    let names = [
+        known_name(alloc, dir.as_str())?,
+        known_name(alloc, inner)?,
+        known_name(alloc, name)?,
+    ];
     known_path(alloc, &names)
 }
 
-// The path of up to three names.
+// The path of names that aren't too long.
 fn known_path(alloc: Global, names: &[Name]) -> Result<Path, Memory>
-    requires { length names.now ≤ 3 }
+    requires { path_bytes names.now ≤ max_path_bytes }
     ensures { IfOk result (λ p. p ≡ names.now) }
 {
     match Path::join(alloc, names)? {
