@@ -1,5 +1,5 @@
 -- What stands in the tree of a drill, and its edits one by one.
-use Rattle.std.proofs.Common.{◌≡◌, ◌≢◌, inl, inr, ℕ, ◌+◌, ◌*◌, ◌<◌, ◌≤◌, Bool, true, false, cond, List, [], ◌∷◌, ◌++◌, map, length, refl, sym, ◌∙◌, ap, subst, arith, get_or, Contains, Option, Some, None, is_some, IsTrue}
+use Rattle.std.proofs.Common.{◌≡◌, ◌≢◌, inl, inr, ℕ, ◌+◌, ◌*◌, ◌<◌, ◌≤◌, List, [], ◌∷◌, map, length, refl, sym, ◌∙◌, ap, subst, arith, Contains, Some}
 use Rattle.std.specs.List.{flat_map}
 use Rattle.std.specs.FinMap.{find, get}
 use Rattle.std.proofs.lemmas.Bool.{cases_Bool, cond-true, cond-false}
@@ -8,7 +8,6 @@ use Rattle.dired_text.specs.Paths.{Names, path_cmp}
 use Rattle.tree_core.specs.declared.edit.Edit.{Edit}
 use Rattle.tree_core.specs.declared.node.Node.{Node}
 use Rattle.tree_core.specs.declared.node.Node.TheVariants.{Dir}
-use Rattle.tree_core.specs.FileTree.{FileTree}
 use Rattle.tree_core.proofs.TreeLemmas.{get-made, tie, tie-other}
 use Rattle.edit_words.specs.declared.row.Row.{Row}
 use Rattle.edit_words.specs.Rows.{edit_row, rows}

@@ -1,7 +1,7 @@
 -- What holds of each kind of group, and that groups have different names.
-use Rattle.std.proofs.Common.{◌≡◌, ◌≢◌, ◌⊎◌, inl, inr, ℕ, ◌+◌, ◌-◌, ◌*◌, ◌/◌, ◌%◌, ◌==◌, ◌<◌, ◌≤◌, nat_le, Bool, true, false, not, ◌&&◌, ◌||◌, cond, List, [], ◌∷◌, map, length, refl, sym, ◌∙◌, ap, subst, arith, get_or, Contains}
+use Rattle.std.proofs.Common.{◌≡◌, ◌≢◌, inl, inr, ℕ, ◌+◌, ◌/◌, ◌%◌, ◌==◌, ◌<◌, ◌≤◌, nat_le, Bool, true, false, not, ◌&&◌, ◌||◌, cond, List, [], ◌∷◌, map, length, refl, sym, ◌∙◌, ap, subst, arith, get_or, Contains}
 use Rattle.std.specs.List.{list_all, list_any}
-use Rattle.std.proofs.lemmas.Bool.{cases_Bool, and_parts, agree_below_at, leb-true}
+use Rattle.std.proofs.lemmas.Bool.{and_parts, agree_below_at, leb-true}
 use Rattle.dired_text.specs.Paths.{Names, parent, slashed}
 use Rattle.edit_words.specs.Rows.{is_same_path}
 use Rattle.edit_words.specs.Place.{is_above}
@@ -10,7 +10,7 @@ use Rattle.edit_laws.proofs.ListLemmas.{any_from, any_parts, contains_cases, con
 use Rattle.drill_tree.specs.declared.group.Group.{Group}
 use Rattle.drill_tree.specs.declared.group.Group.TheVariants.{Chain, Cycle, Nested, Replacing, Swallowing}
 use Rattle.drill_tree.specs.declared.moves.Move.{Move}
-use Rattle.drill_tree.specs.Groups.{Held, group_by, group_of, group_name, held, moves}
+use Rattle.drill_tree.specs.Groups.{Held, group_of, group_name, held, moves}
 use Rattle.drill_tree.proofs.ListLemmas.{Apart, apart_of_map}
 
 -- ---- tests of a group

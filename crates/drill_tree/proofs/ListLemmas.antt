@@ -1,5 +1,5 @@
 -- Lists that are made number by number, and lists whose elements are apart.
-use Rattle.std.proofs.Common.{◌≡◌, ◌≢◌, inl, inr, ℕ, zero, suc, ◌+◌, ◌*◌, ◌<◌, ◌≤◌, List, [], ◌∷◌, ◌++◌, map, length, refl, sym, ◌∙◌, ap, subst, arith, get_or, All, Contains, append_assoc, length-append}
+use Rattle.std.proofs.Common.{◌≡◌, inl, inr, ℕ, zero, suc, ◌+◌, ◌*◌, ◌<◌, ◌≤◌, List, [], ◌∷◌, ◌++◌, map, length, refl, sym, ◌∙◌, ap, subst, arith, get_or, All, Contains, append_assoc, length-append}
 use Rattle.std.specs.List.{AllPairs, flat_map, range_with_len}
 use Rattle.std.proofs.lemmas.Bool.{cases_lt}
 use Rattle.std.proofs.lemmas.List.{append-nil, get_or_default}
@@ -68,9 +68,9 @@ module _ {X : Type 0} where
       (each a (omega arith))
       (flat_apart R f (a + 1) n (λ g below. each g (omega arith)) (λ g h less below. across g h less (omega arith)))
       (λ x y cx cy.
-          let p = flat_parts f (range_with_len (a + 1) n) y cy in
-          let w = range_parts (a + 1) n p.0 p.1 in
-          across a p.0 (omega (arith, w.0)) (omega (arith, w.1)) x y cx p.2)
+      let p = flat_parts f (range_with_len (a + 1) n) y cy in
+      let w = range_parts (a + 1) n p.0 p.1 in
+      across a p.0 (omega (arith, w.0)) (omega (arith, w.1)) x y cx p.2)
 
   pub flat_more : (f : ℕ → List X) (a n : ℕ) → flat_map f (range_with_len a (suc n)) ≡ flat_map f (range_with_len a n) ++ f (a + n)
   flat_more f a zero = append-nil (f a) ∙ ap f (omega arith)

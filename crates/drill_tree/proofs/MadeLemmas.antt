@@ -1,37 +1,27 @@
 -- That the edits of a drill can be asked for, and made in its tree.
-use Rattle.std.proofs.Common.{◌≡◌, ◌≢◌, ◌⊎◌, inl, inr, ℕ, zero, suc, ◌+◌, ◌-◌, ◌*◌, ◌<◌, ◌≤◌, ◌==◌, eqb, Bool, true, false, not, ◌&&◌, ◌||◌, cond, List, [], ◌∷◌, ◌++◌, map, filter, length, take, refl, sym, ◌∙◌, ap, subst, arith, get_or, All, Contains, Option, Some, None, is_some, IsTrue, codes, length-append}
-use Rattle.std.specs.List.{AllPairs, list_any, find}
-use Rattle.std.specs.FinMap.{get}
-use Rattle.std.proofs.lemmas.Bool.{cases_Bool, cond-true, cond-false, and_parts, eqb-true}
+use Rattle.std.proofs.Common.{◌≡◌, ◌≢◌, ℕ, ◌+◌, ◌*◌, ◌<◌, ◌≤◌, Bool, true, false, not, cond, List, [], ◌∷◌, ◌++◌, filter, length, refl, sym, ◌∙◌, ap, subst, arith, Contains, Option, Some, None, is_some, length-append}
+use Rattle.std.specs.List.{AllPairs}
 use Rattle.std.proofs.lemmas.Option.{none-some, same_Some}
-use Rattle.dired_text.specs.Paths.{Names, parent, slash, slashed, joined, path_bytes, is_below}
-use Rattle.tree_core.specs.declared.changes.Confirmed.{Confirmed}
+use Rattle.dired_text.specs.Paths.{Names, parent, slashed, path_bytes}
 use Rattle.tree_core.specs.declared.edit.Edit.{Edit}
-use Rattle.tree_core.specs.declared.edit.Shown.{Shown}
-use Rattle.tree_core.specs.declared.node.Node.{Node}
-use Rattle.tree_core.specs.declared.node.Node.TheVariants.{Dir, File}
-use Rattle.tree_core.specs.FileTree.{FileTree, IsDir, Stands, is_dir_node}
-use Rattle.tree_core.proofs.TreeLemmas.{none_of}
 use Rattle.edit_words.specs.declared.row.Row.{Row}
 use Rattle.edit_words.specs.declared.row.Route.{Route}
 use Rattle.edit_words.specs.declared.row.Route.TheVariants.{Stays, Named, Sent}
-use Rattle.edit_words.specs.Rows.{edit_row, is_at, is_elsewhere, is_same_path, is_source, last_name, route_by, route_of, route_to, row_from, rows, written}
-use Rattle.edit_words.specs.Place.{IsAbove, ancestors, is_above, place, placed, routed}
-use Rattle.edit_words.specs.Refusals.{changed_bytes, is_confirmed, missing_above, row_bytes, staging, total}
-use Rattle.edit_words.specs.Sight.{Sight, sight_of}
-use Rattle.edit_words.specs.WellFormed.{AreAsked, AreConfirmed, CanBeMade, HasOtherSource, IsEdit, IsMover, IsNoRoot, IsShown, IsStagedAt, IsVictimOf, IsWellFormed, LinesRise, ShowsNode, SourcesDiffer}
-use Rattle.edit_words.proofs.AboveLemmas.{above_decides, ancestors_above}
+use Rattle.edit_words.specs.Rows.{edit_row, is_at, is_elsewhere, is_same_path, last_name, route_by, route_of, route_to, row_from, rows, written}
+use Rattle.edit_words.specs.Place.{IsAbove, ancestors, place, placed, routed}
+use Rattle.edit_words.specs.Refusals.{changed_bytes, missing_above, row_bytes, total}
+use Rattle.edit_words.specs.Sight.{Sight}
+use Rattle.edit_words.specs.WellFormed.{HasOtherSource, IsEdit, IsNoRoot, LinesRise, SourcesDiffer}
+use Rattle.edit_words.proofs.AboveLemmas.{ancestors_above}
 use Rattle.edit_words.proofs.AncestorLemmas.{ancestors_counted}
-use Rattle.edit_words.proofs.SameLemmas.{same_path, same_itself}
-use Rattle.edit_laws.proofs.ListLemmas.{Ordered, one, before, after, ordered, any_parts, contains_cases, contains_head, contains_none, contains_tail, filter_parts, find_from, find_parts}
+use Rattle.edit_laws.proofs.ListLemmas.{contains_head, contains_tail, filter_parts, find_parts}
 use Rattle.drill_tree.specs.declared.moves.Move.{Move}
-use Rattle.drill_tree.specs.Groups.{Held, group_name, group_of, held, moves}
-use Rattle.drill_tree.specs.Drill.{IsDrillTree, drill_edits, drill_moves, drill_tree, edit_of, in_dir, node_of, numbered, shown}
+use Rattle.drill_tree.specs.Groups.{group_name, group_of, moves}
+use Rattle.drill_tree.specs.Drill.{drill_edits, drill_moves, edit_of, in_dir, numbered}
 use Rattle.drill_tree.specs.Laws.{AreDrillEdits, max_groups}
-use Rattle.drill_tree.proofs.ListLemmas.{Apart, all_from, apart_map, apart_pairs}
-use Rattle.drill_tree.proofs.GroupLemmas.{IsGood, IsShort, is_fine, is_source_of, law, not_both}
-use Rattle.drill_tree.proofs.DrillLemmas.{RowOf, StoodAs, root, group, edits_apart, edit_parts, held_here, moves_few, move_came, not_root, one_group, places_apart, root_here, row_at, row_came, row_count, row_there, same_rest, sources_apart, stands_here, stood}
-use Rattle.drill_tree.proofs.DrillLemmas.{one as one_held}
+use Rattle.drill_tree.proofs.ListLemmas.{all_from, apart_map, apart_pairs}
+use Rattle.drill_tree.proofs.GroupLemmas.{IsShort, law}
+use Rattle.drill_tree.proofs.DrillLemmas.{edits_apart, edit_parts, moves_few, move_came, not_root, places_apart, row_at, row_came, row_count, same_rest, sources_apart}
 
 -- ---- asked for
 
@@ -208,11 +198,11 @@ above_few u w above =
 ancestors_few : (test : Names → Bool) (w : Names) → IsInGroup w → total path_bytes (filter test (ancestors w)) ≤ 36
 ancestors_few test w few =
     let each = total_twelve path_bytes (filter test (ancestors w)) (λ u c.
-        let above = (ancestors_above w u).0 (filter_parts test (ancestors w) u c).0 in
-        let a = bytes_few u in
-        let b = above_few u w above in
-        let d = few.bytes in
-        omega (arith, a, b, d)) in
+    let above = (ancestors_above w u).0 (filter_parts test (ancestors w) u c).0 in
+    let a = bytes_few u in
+    let b = above_few u w above in
+    let d = few.bytes in
+    omega (arith, a, b, d)) in
     let count = filter_few test (ancestors w) in
     let size = ancestors_counted w in
     let names = few.names in
@@ -242,8 +232,8 @@ row_few n g line m sight c =
 pub bytes_within : (n : ℕ) (sight : Sight) → n ≤ max_groups → changed_bytes sight (rows (drill_edits n)) ≤ 67108864
 bytes_within n sight most =
     let all = total_few (row_bytes sight (rows (drill_edits n))) (rows (drill_edits n)) (λ r c.
-        let o = row_came n r c in
-        subst (λ (x : Row). row_bytes sight (rows (drill_edits n)) x ≤ 108) (sym o.is) (row_few n o.group o.line o.move sight o.listed)) in
+    let o = row_came n r c in
+    subst (λ (x : Row). row_bytes sight (rows (drill_edits n)) x ≤ 108) (sym o.is) (row_few n o.group o.line o.move sight o.listed)) in
     let size = row_count n in
     let few = moves_few n in
     omega (arith, all, size, few, most)

@@ -1,5 +1,5 @@
 -- Paths of few names are not too long.
-use Rattle.std.proofs.Common.{ℕ, ◌+◌, ◌≤◌, nat_le, List, [], ◌∷◌, ◌++◌, length, arith, IsTrue, not, ◌&&◌, length-append}
+use Rattle.std.proofs.Common.{ℕ, ◌≤◌, nat_le, List, [], ◌∷◌, length, arith, IsTrue, not, ◌&&◌, length-append}
 use Rattle.std.specs.List.{list_all}
 use Rattle.std.proofs.lemmas.Bool.{and_parts, leb-true}
 use Rattle.dired_text.specs.Paths.{is_dots, is_name, is_name_byte, path_bytes, slashed}

@@ -1,30 +1,28 @@
 -- That the edits of a drill are well formed in its tree, whatever the numbers of its files.
-use Rattle.std.proofs.Common.{◌≡◌, ◌≢◌, ◌⊎◌, inl, inr, ℕ, suc, ◌+◌, ◌-◌, ◌<◌, ◌≤◌, ◌==◌, eqb, Bool, true, false, not, ◌&&◌, ◌||◌, List, [], ◌∷◌, ◌++◌, length, take, refl, sym, ◌∙◌, ap, subst, arith, get_or, Contains, Option, Some, None, is_some, IsTrue, length-append}
-use Rattle.std.specs.List.{find}
+use Rattle.std.proofs.Common.{◌≡◌, inl, inr, ℕ, suc, ◌-◌, ◌<◌, ◌≤◌, ◌==◌, Bool, true, false, not, ◌&&◌, ◌||◌, List, [], ◌∷◌, ◌++◌, length, refl, sym, ◌∙◌, ap, subst, arith, get_or, Contains, Option, Some, None, is_some, IsTrue, length-append}
 use Rattle.std.specs.FinMap.{get}
-use Rattle.std.proofs.lemmas.Bool.{cases_Bool, and_parts, eqb-true, or_cases}
+use Rattle.std.proofs.lemmas.Bool.{and_parts, eqb-true, or_cases}
 use Rattle.std.proofs.lemmas.Option.{none-some, same_Some}
 use Rattle.dired_text.specs.Paths.{Names, is_below, parent, path_bytes}
-use Rattle.tree_core.specs.declared.changes.Confirmed.{Confirmed}
 use Rattle.tree_core.specs.declared.edit.Shown.{Shown}
 use Rattle.tree_core.specs.declared.node.Node.{Node}
-use Rattle.tree_core.specs.declared.node.Node.TheVariants.{Dir, File}
+use Rattle.tree_core.specs.declared.node.Node.TheVariants.{Dir}
 use Rattle.tree_core.specs.FileTree.{FileTree, IsDir, Stands, is_dir_node}
 use Rattle.tree_core.proofs.TreeLemmas.{none_of}
 use Rattle.edit_words.specs.declared.row.Row.{Row}
-use Rattle.edit_words.specs.Rows.{is_at, is_elsewhere, is_same_path, is_source, route_of, row_from, rows, written}
+use Rattle.edit_words.specs.Rows.{is_at, is_elsewhere, is_same_path, is_source, route_of, rows, written}
 use Rattle.edit_words.specs.Place.{IsAbove, is_above, place}
-use Rattle.edit_words.specs.Refusals.{is_confirmed, staging}
+use Rattle.edit_words.specs.Refusals.{staging}
 use Rattle.edit_words.specs.Sight.{sight_of}
-use Rattle.edit_words.specs.WellFormed.{AreConfirmed, CanBeMade, IsMover, IsShown, IsStagedAt, IsVictimOf, IsWellFormed, ShowsNode}
+use Rattle.edit_words.specs.WellFormed.{CanBeMade, IsShown, IsStagedAt, IsWellFormed, ShowsNode}
 use Rattle.edit_words.proofs.AboveLemmas.{above_decides}
 use Rattle.edit_words.proofs.SameLemmas.{same_path, same_itself}
-use Rattle.edit_laws.proofs.ListLemmas.{Ordered, one, before, after, ordered, any_parts, find_from}
+use Rattle.edit_laws.proofs.ListLemmas.{one, before, after, ordered, any_parts, find_from}
 use Rattle.drill_tree.specs.declared.moves.Move.{Move}
-use Rattle.drill_tree.specs.Groups.{Held, group_name, group_of, held, moves}
-use Rattle.drill_tree.specs.Drill.{IsDrillTree, drill_edits, drill_tree, node_of, shown}
-use Rattle.drill_tree.specs.Laws.{DrillsCanBeMade, max_groups}
-use Rattle.drill_tree.proofs.GroupLemmas.{IsGood, is_fine, is_near, is_source_of, law, not_both}
+use Rattle.drill_tree.specs.Groups.{group_name, group_of, held, moves}
+use Rattle.drill_tree.specs.Drill.{drill_edits, drill_tree, node_of, shown}
+use Rattle.drill_tree.specs.Laws.{DrillsCanBeMade}
+use Rattle.drill_tree.proofs.GroupLemmas.{IsGood, is_source_of, law, not_both}
 use Rattle.drill_tree.proofs.DrillLemmas.{RowOf, StoodAs, root, group, group_here, held_here, not_root, one_group, root_here, row_at, row_came, row_there, same_first, same_rest, stood}
 use Rattle.drill_tree.proofs.DrillLemmas.{one as one_held}
 use Rattle.drill_tree.proofs.MadeLemmas.{OtherPlace, bytes_few, bytes_within, in_group, place_few, places_differ}
@@ -53,7 +51,7 @@ far_is_one : (g line : ℕ) (m : Move) → IsGood (group_of g) m → is_elsewher
 far_is_one g line m good far = elim (or_cases (is_same_path (parent m.source) (parent m.to)) (length m.to == 1) good.near) [
   | inl same ↦
       let parents : parent (group_name g ∷ m.source) ≡ parent (group_name g ∷ m.to) =
-          parent_in (group_name g) m.source good.source.some ∙ ap (λ (p : Names). group_name g ∷ p) (same_path (parent m.source) (parent m.to) same) ∙ sym (parent_in (group_name g) m.to good.to.some) in
+      parent_in (group_name g) m.source good.source.some ∙ ap (λ (p : Names). group_name g ∷ p) (same_path (parent m.source) (parent m.to) same) ∙ sym (parent_in (group_name g) m.to good.to.some) in
       absurd (not_both (is_same_path (parent (group_name g ∷ m.source)) (parent (group_name g ∷ m.to))) far
       (subst (λ (p : Names). is_same_path (parent (group_name g ∷ m.source)) p ≡ true) parents (same_itself (parent (group_name g ∷ m.source)))))
   | inr single ↦ eqb-true (length m.to) 1 single
@@ -108,7 +106,7 @@ is_left n g p most e =
     let at = row_there n g found.0 most found.1 in
     let same : group_name g ∷ p ≡ group_name g ∷ found.0.source = ap (λ (q : Names). group_name g ∷ q) (same_path p found.0.source found.2) in
     let here : is_at (group_name g ∷ p) (Some (group_name g ∷ found.0.source)) ≡ true =
-        subst (λ (q : Names). is_same_path (group_name g ∷ p) q ≡ true) same (same_itself (group_name g ∷ p)) in
+    subst (λ (q : Names). is_same_path (group_name g ∷ p) q ≡ true) same (same_itself (group_name g ∷ p)) in
     let row = find_from (λ (r : Row). is_at (group_name g ∷ p) r.source) (rows (drill_edits n)) (row_at g at.line found.0) at.listed here in
     ap is_some row.1
 
@@ -144,9 +142,9 @@ module _ (numbers : Names → ℕ) (n : ℕ) where
   shown_at g line m most c = λ s was is_source is_was.
       let good = (law g).good m c in
       let here : get Tree (group_name g ∷ m.source) ≡ Some (node_of numbers (group_name g ∷ m.source) m.is_dir) =
-          ap (λ (p : Names). get Tree (group_name g ∷ p)) (sym good.path) ∙ held_here numbers n g good.shown most good.listed
-          ∙ ap (λ (p : Names). Some (node_of numbers (group_name g ∷ p) good.shown.is_dir)) good.path
-          ∙ ap (λ (b : Bool). Some (node_of numbers (group_name g ∷ m.source) b)) good.same in (
+      ap (λ (p : Names). get Tree (group_name g ∷ p)) (sym good.path) ∙ held_here numbers n g good.shown most good.listed
+      ∙ ap (λ (p : Names). Some (node_of numbers (group_name g ∷ p) good.shown.is_dir)) good.path
+      ∙ ap (λ (b : Bool). Some (node_of numbers (group_name g ∷ m.source) b)) good.same in (
         node_of numbers (group_name g ∷ m.source) m.is_dir,
         ap (λ (p : Names). get Tree p) (sym (same_Some (group_name g ∷ m.source) s is_source)) ∙ here,
         subst (λ (w : Shown). ShowsNode w (node_of numbers (group_name g ∷ m.source) m.is_dir)) (same_Some (shown m.is_dir) was is_was) (shows (group_name g ∷ m.source) m.is_dir),
@@ -197,7 +195,7 @@ module _ (numbers : Names → ℕ) (n : ℕ) where
           let is_dir : x.is_dir ≡ true = not_file x.is_dir (group_name h ∷ x.path) here in
           let fine = and_parts (not (is_above x.path m.to) || x.is_dir) _ (((law g).good m c).fine x cx') in
           let both : (x.is_dir && is_same_path x.path m.to) ≡ true =
-              rw is_dir (subst (λ (p : Names). is_same_path x.path p ≡ true) inner (same_itself x.path)) in
+          rw is_dir (subst (λ (p : Names). is_same_path x.path p ≡ true) inner (same_itself x.path)) in
           let left : is_source_of (group_of g) m.to ≡ true = elim (or_cases (not (x.is_dir && is_same_path x.path m.to)) (is_source_of (group_of g) m.to) fine.1) [
             | inl other ↦ absurd (not_both (x.is_dir && is_same_path x.path m.to) other both)
             | inr leaves ↦ leaves

@@ -1,6 +1,5 @@
 -- That the edits of a drill can be made in its tree, as statements.
-use Rattle.std.specs.Prelude.{◌≡◌, ℕ, ◌≤◌, ◌+◌, ◌*◌, true, length}
-use Rattle.std.specs.FinMap.{entries}
+use Rattle.std.specs.Prelude.{◌≡◌, ℕ, ◌≤◌, ◌*◌, true, length}
 use Rattle.tree_core.specs.FileTree.{FileTree}
 use Rattle.tree_core.specs.declared.changes.Confirmed.{Confirmed}
 use Rattle.edit_words.specs.Rows.{rows}

@@ -1,4 +1,4 @@
-use Rattle.std.proofs.Common.{◌≡◌, ◌++◌, ◌∷◌, [], ◌+◌, ◌%◌, map}
+use Rattle.std.proofs.Common.{◌≡◌, ◌++◌, ◌+◌, ◌%◌, map}
 use Rattle.drill_tree.specs.Drill.{in_dir}
 use Rattle.drill_tree.specs.Groups.{below, cycle_name, moves_file, one}
 use Rattle.drill_tree.proofs.moves.add_cycle.Given as goal
