@@ -4,8 +4,8 @@
 crash.py [PROGRAM] [--examples COUNT] [--only NAME] [--edits COUNT] [--lines COUNT] [--seed SEED] [--every COUNT] [--drawn-every COUNT] [--jobs COUNT]
          [--mask MASK]
 
-For the first COUNT small examples of commits (all, unless given), or the one of this NAME, and for COUNT drawn edits (none, unless given; of at
-most LINES lines, 50 unless given), on real folders: the program is killed as each changing call begins, and each of them fails, of the examples with EIO
+For the first COUNT small examples of commits (all, unless given), and for COUNT drawn edits (none, unless given; of at most LINES lines, 50 unless
+given), or of all these the one of this NAME, on real folders: the program is killed as each changing call begins, and each of them fails, of the examples with EIO
 and with ENOSPC, of the drawn edits with one of them in turn; so does the `sync` of the programs that it starts. Each tree that stands then is recovered, and
 a copy of it with `--back`. Each of these recoveries is killed itself as a changing call begins: at every call of it (--every 1, unless given), of
 the drawn edits at each so many-th, the first of them drawn (--drawn-every 12, unless given); and what stands then is recovered and killed in the same way, until
@@ -416,7 +416,8 @@ def jobs_of(words):
     """What is tried: the longest first, which are the drawn edits."""
     rng, program = random.Random(words.seed), os.path.abspath(words.program)
     examples = [case for case in small() if all(change.is_edit() for change in case.changes) and words.only in ("", case.name)][:words.examples]
-    edits = sorted((drawn(rng, words.lines) for _ in range(words.edits)), key=lambda case: -len(case.changes))
+    drawn_cases = [drawn(rng, words.lines) for _ in range(words.edits)]
+    edits = sorted((case for case in drawn_cases if words.only in ("", case.name)), key=lambda case: -len(case.changes))
     return ([(program, case, words.drawn_every, 1, words.seed + place) for place, case in enumerate(edits)]
             + [(program, case, words.every, 2, words.seed + place) for place, case in enumerate(examples)])
 

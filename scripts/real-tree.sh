@@ -270,6 +270,87 @@ L
     by=
 fi
 
+# ---- reminders of directories whose mode is still to be set
+
+# What a killed run left is done by the first sync, or before the next such directory is made.
+fresh; mkdir staging made left; chmod 2700 made left; : > left/f; : > file; : > staging/f8
+# A link in the staging directory, and what stands at its target behind the sync: heeded TARGET MODE
+heeded() {
+    ln -s "$1" staging/f9
+    calls "a reminder of $1" <<L
+leave_reminders staging/f9 755 => done
+kind staging/f9 => link
+sync => done
+kind staging/f9 => nothing
+L
+    [ ! -e "$1" ] || [ "$(stat -c %a "$1")" = "$2" ] || fail "a reminder of $1: $(stat -c %a "$1") in place of $2"
+}
+heeded made 755
+heeded left 2700
+chmod 600 file; heeded file 600
+heeded nothing 0
+heeded ../tree 755; chmod 2700 made; heeded "$work/tree/made" 2700
+ln -s made link; heeded link 2700; heeded link/x 0
+ln -s made staging/f9
+calls 'the call that makes the next one' <<'L'
+make_dir s 2755 => done
+leave_reminders staging/f9 755 => done
+make_dir s/d 755 => done
+kind staging/f9 => nothing
+mode made => 755
+mode s/d => 755
+leave_reminders . 755 => failed
+leave_reminders ../x 755 => failed
+L
+# None is left where the directory of reminders doesn't stand, and what isn't a link is no reminder.
+calls 'no reminder' <<'L'
+leave_reminders nothing/f9 755 => done
+make_dir s/e 755 => done
+mode s/e => 755
+sync => done
+leave_reminders staging/f8 755 => done
+sync => done
+kind staging/f8 => file
+L
+if has strace && strace -qq -o "$work/trace" true 2> /dev/null; then
+    # The calls that make a directory s/d: made_by MASK WANTED
+    made_by() {
+        fresh; mkdir staging; mkdir s
+        [ -z "$3" ] || chmod "$3" s
+        printf 'leave_reminders staging/f9 755\nmake_dir s/d 755\n' > "$work/in"
+        (umask "$1"; exec strace -qq -o "$work/trace" -e trace=symlink,symlinkat,mkdir,mkdirat,chmod,fchmod,fchmodat,unlink,unlinkat \
+            "$program" < "$work/in" > "$work/printed" 2> "$work/errors")
+        sed 's/(.*//; s/at$//; s/^fchmod$/chmod/' "$work/trace" | paste -sd' ' > "$work/asked"
+        [ "$(cat "$work/asked")" = "$2" ] || fail "a directory in one of mode $3, mask $1: $(cat "$work/asked")"
+        [ "$(stat -c %a s/d)" = 755 ] || fail "a directory in one of mode $3, mask $1: $(stat -c %a s/d)"
+    }
+    made_by 022 'mkdir' 755
+    made_by 0 'mkdir' 755
+    made_by 022 'symlink mkdir chmod unlink' 2755
+    made_by 077 'symlink mkdir chmod unlink' 755
+    made_by 007 'symlink mkdir chmod unlink' 755
+    # Killed at each of these calls, or with each of them failing: the next run's sync leaves nothing, or the directory with its mode.
+    for place in symlink mkdir fchmod unlink; do
+        fresh; mkdir staging; mkdir -m 2755 s; chmod 2755 s
+        printf 'leave_reminders staging/f9 755\nmake_dir s/d 755\n' > "$work/in"
+        strace -qq -o "$work/trace" -e trace="?$place,?${place}at" -e inject="?$place,?${place}at:signal=KILL" "$program" < "$work/in" > "$work/printed" 2> "$work/errors"
+        printf 'leave_reminders staging/f9 755\nsync\n' | "$program" > "$work/printed"
+        [ "$(sed 's/.*: //' "$work/printed" | paste -sd' ')" = 'done done' ] || { fail "killed at $place: the sync failed"; cat "$work/printed"; }
+        [ -z "$(ls -A staging)" ] || fail "killed at $place: a reminder stands"
+        [ ! -e s/d ] || [ "$(stat -c %a s/d)" = 755 ] || fail "killed at $place: $(stat -c %a s/d)"
+        fresh; mkdir staging; mkdir -m 2755 s; chmod 2755 s
+        strace -qq -o "$work/trace" -e trace="?$place,?${place}at" -e inject="?$place,?${place}at:error=EIO:when=1" "$program" < "$work/in" > "$work/printed" 2> "$work/errors"
+        wanted=failed; [ $place != unlink ] || wanted=done
+        [ "$(sed -n 's/^make_dir.*: //p' "$work/printed")" = $wanted ] || { fail "$place fails once"; cat "$work/printed"; }
+        [ -z "$(ls -A staging)" ] || fail "$place fails once: a reminder stands"
+        if [ $wanted = done ]; then [ "$(stat -c %a s/d)" = 755 ]; else [ ! -e s/d ]; fi || fail "$place fails once: what stands at s/d"
+    done
+    # Where the reminder can't be removed, the directory is taken back.
+    fresh; mkdir staging; mkdir -m 2755 s; chmod 2755 s
+    strace -qq -o "$work/trace" -e trace='?unlink,?unlinkat' -e inject='?unlink,?unlinkat:error=EIO' "$program" < "$work/in" > "$work/printed" 2> "$work/errors"
+    grep -q 'make_dir.*failed' "$work/printed" && [ ! -e s/d ] && [ -L staging/f9 ] || fail 'a reminder that stays'
+else skip strace 'the calls that make a directory'; fi
+
 # ---- entries of other kinds
 
 fresh; : > f; mkdir d

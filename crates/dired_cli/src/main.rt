@@ -15,6 +15,12 @@ const NO_CLOCK: u8 = 41;
 
 const NO_WORDS: u8 = 42;
 
+// Where the link stands that tells of a new directory whose mode is still to be set: under a name of new entries of the staging
+// directory, with a number that no commit gives one. A commit makes each directory with this mode.
+const REMINDER: &str = ".wdired-commit/f4294967295";
+
+const DIR_MODE: u16 = 0o755;
+
 fn main(rt: HostRuntime) -> ExitCode {
     let Ok(words) = words_after_the_name(&rt) else {
         return ExitCode::from(NO_WORDS);
@@ -22,6 +28,9 @@ fn main(rt: HostRuntime) -> ExitCode {
     let Ok(mut tree) = HostTree::open(rt) else {
         return ExitCode::from(NO_TREE);
     };
+    if tree.leave_reminders(REMINDER, DIR_MODE).is_err() {
+        return ExitCode::from(NO_TREE);
+    }
     let Some(now) = seconds_since_1970(&rt) else {
         return ExitCode::from(NO_CLOCK);
     };

@@ -26,6 +26,9 @@ pub fn make(alloc: Global, tree: &mut HostTree<HostRuntime>, line: &str) -> Answ
     if words.call == "sync" {
         return Answer::of_change(tree.sync());
     }
+    if words.call == "leave_reminders" {
+        return leave_reminders(tree, &words);
+    }
     let Ok(path) = path_of(alloc, words.first) else {
         return Answer::NotMade;
     };
@@ -39,6 +42,14 @@ pub fn make(alloc: Global, tree: &mut HostTree<HostRuntime>, line: &str) -> Answ
         "make_hard" | "rename" => join(alloc, tree, &words, &path),
         _ => set(tree, &words, &path),
     }
+}
+
+// The setting that isn't a call of a tree.
+fn leave_reminders(tree: &mut HostTree<HostRuntime>, words: &Words<'_>) -> Answer {
+    let Ok(mode) = u16::from_str_radix(words.second, 8) else {
+        return Answer::NotMade;
+    };
+    Answer::of_change(tree.leave_reminders(words.first, mode))
 }
 
 // The looks.

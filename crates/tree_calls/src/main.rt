@@ -3,7 +3,7 @@
 //!
 //! A line has the call's name and its words, each behind a space: `make_dir PATH MODE`, `make_link PATH TARGET`, `make_hard PATH
 //! OLD`, `write_file PATH MODE TEXT`, `rename FROM TO`, `set_mode PATH MODE`, `remove PATH`, `remove_dir PATH`, `sync`, `kind PATH`,
-//! `mode PATH`, `is_empty PATH`, `meta PATH`, `names PATH`, `read PATH LIMIT`, `shell TEXT`, `pattern TEXT`. Modes are octal, the path
+//! `mode PATH`, `is_empty PATH`, `meta PATH`, `names PATH`, `read PATH LIMIT`, `leave_reminders PLACE MODE`, `shell TEXT`, `pattern TEXT`. Modes are octal, the path
 //! `.` is the root, and a text goes to the end of the line. The status is 0, 2 where the input or the output failed, and 40 where the working directory can't be taken as the tree.
 #![tactic(auto)]
 

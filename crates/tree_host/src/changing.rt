@@ -4,6 +4,7 @@ ghost use Rattle.dired_text.specs.Paths.{parent};
 ghost use Rattle.tree_host.specs.Notes.{IsNoted, KeepsNotes};
 
 use crate::doing;
+use crate::reminding::Reminder;
 use crate::work::Work;
 use dired_text::{Path, rest_below};
 use host_looks::{has_mode, is_target, kind_of, mode_of};
@@ -41,8 +42,13 @@ impl<R: Files + Processes + AllocGlobal + Drop> Work<R> {
         Ok(())
     }
 
-    /// Makes an empty directory of this mode.
-    pub fn make_dir(&mut self, path: &Path, mode: u16) -> Result<(), LookEnd>
+    /// Makes an empty directory of this mode, with a reminder where one is wanted.
+    pub fn make_dir(
+        &mut self,
+        reminder: Option<&Reminder>,
+        path: &Path,
+        mode: u16,
+    ) -> Result<(), LookEnd>
         ensures noted { OnOk result (IsNoted self.new.touched (parent path.now) ×
             IsNoted self.new.touched path.now) }
         ensures kept { KeepsNotes self.old.touched self.new.touched }
@@ -53,6 +59,19 @@ impl<R: Files + Processes + AllocGlobal + Drop> Work<R> {
         }
         self.free_and_noted(path)?;
         self.touched.note(path);
+        match self.reminder_for(reminder, path, mode)? {
+            Some(reminder) => self.make_reminded(reminder, path, mode),
+            None => self.make_with_mode(path, mode),
+        }
+    }
+
+    /// Makes an empty directory, and sets its mode where the host gave it another one. Where that fails, it is taken back.
+    pub fn make_with_mode(&mut self, path: &Path, mode: u16) -> Result<(), LookEnd>
+        requires { IsNoted self.old.touched (parent path.now) × IsNoted self.old.touched path.now }
+        ensures touched { self.new.touched ≡ self.old.touched }
+        ensures broken { self.new.broken ≡ self.old.broken }
+        ensures reminded { self.new.is_reminded ≡ self.old.is_reminded }
+    {
         doing::make_dir(&self.rt, &self.touched, path, mode)?;
         match self.fix_mode(path, mode) {
             Ok(()) => Ok(()),
@@ -68,6 +87,7 @@ impl<R: Files + Processes + AllocGlobal + Drop> Work<R> {
         requires { IsNoted self.old.touched path.now }
         ensures touched { self.new.touched ≡ self.old.touched }
         ensures broken { self.new.broken ≡ self.old.broken }
+        ensures reminded { self.new.is_reminded ≡ self.old.is_reminded }
     {
         match self.look(path.names())? {
             Some(found) if found.data.is_dir() => {

@@ -4,8 +4,9 @@ ghost use Rattle.dired_text.specs.Counts.{raised};
 ghost use Rattle.tree_core.specs.FileTree.{root_tree};
 ghost use Rattle.tree_core.specs.History.{Began};
 
+use crate::reminding::Reminder;
 use crate::work::Work;
-use dired_text::{Bytes, Failed, Name, Path};
+use dired_text::{Bytes, Failed, Name, Path, resolve};
 use std::alloc::Global;
 use std::process::Processes;
 use std::rt::Files;
@@ -18,6 +19,8 @@ use tree_core::{CallName, Faults, Kind, LookEnd, Meta, ReadEnd, Tree};
 #[derive(Drop)]
 pub struct HostTree<R: Files + Processes + AllocGlobal + Drop> {
     work: Work<R>,
+    // that of directories whose mode is still to be set
+    reminder: Option<Reminder>,
     faults: Faults,
     // how many changing calls were made
     changes: u64,
@@ -35,9 +38,31 @@ impl<R: Files + Processes + AllocGlobal + Drop> HostTree<R> {
         match Work::open(rt) {
             Ok(work) => Ok(HostTree {
                 work,
+                reminder: None,
                 faults: Faults::new(),
                 changes: 0,
             }),
+            Err(_) => Err(Failed),
+        }
+    }
+
+    /// Has a directory of this mode made so that a kill doesn't leave it with another one, where the host would set its mode by a second
+    /// call: by the mask of the process, or in a directory with the set-group bit. A link at this place, which is a path from the root,
+    /// then leads to it until it has its mode, if the directory of that place stands. A link that stands there from a run that was
+    /// killed is heeded and removed by the first `sync`, and by the first call that makes such a directory.
+    ///
+    /// # Errors
+    /// `Failed` where the place is none below the root, and for want of memory.
+    pub fn leave_reminders(&mut self, place: &str, mode: u16) -> Result<(), Failed>
+        ensures faults { self.new.faults ≡ self.old.faults }
+        ensures changes { self.new.changes ≡ self.old.changes }
+    {
+        let alloc = self.work.rt.alloc();
+        match resolve(alloc, &Path::root(alloc), place) {
+            Ok(place) => {
+                self.reminder = Some(Reminder { place, mode });
+                Ok(())
+            }
             Err(_) => Err(Failed),
         }
     }
@@ -137,7 +162,7 @@ impl<R: Files + Processes + AllocGlobal + Drop> Tree for HostTree<R> {
 
     fn make_dir(&mut self, path: &Path, mode: u16) -> Result<(), Failed> {
         self.note_change();
-        match self.work.make_dir(path, mode) {
+        match self.work.make_dir(self.reminder.as_ref(), path, mode) {
             Ok(()) => Ok(()),
             Err(_) => {
                 self.faults.note(CallName::MakeDir);
@@ -225,7 +250,7 @@ impl<R: Files + Processes + AllocGlobal + Drop> Tree for HostTree<R> {
 
     fn sync(&mut self) -> Result<(), Failed> {
         self.note_change();
-        match self.work.sync() {
+        match self.work.sync(self.reminder.as_ref()) {
             Ok(()) => Ok(()),
             Err(_) => {
                 self.faults.note(CallName::Sync);

@@ -9,6 +9,8 @@ mod host_shelf;
 mod host_shell;
 mod host_sink;
 mod host_tree;
+mod mask;
+mod reminding;
 mod syncing;
 mod touched;
 mod work;

@@ -4,6 +4,7 @@ ghost use Rattle.std.specs.BTreeSet.{IsEmpty};
 ghost use Rattle.tree_core.specs.FileTree.{IsMode};
 ghost use Rattle.tree_core.specs.Fields.{IsMeta, RiseStrictly};
 
+use crate::reminding::Reminder;
 use crate::syncing::{Written, sync_each, sync_systems};
 use crate::touched::Touched;
 use dired_text::{Name, Path};
@@ -25,6 +26,10 @@ pub struct Work<R: Files + Processes + AllocGlobal + Drop> {
     pub touched: Touched,
     /// Whether a sync has failed.
     pub broken: bool,
+    /// Whether a reminder may stand, of this run or of one that was killed.
+    pub is_reminded: bool,
+    /// The bits that the host takes from the mode of what is made, once it was asked.
+    pub mask: Option<u16>,
 }
 
 impl<R: Files + Processes + AllocGlobal + Drop> Work<R> {
@@ -39,6 +44,8 @@ impl<R: Files + Processes + AllocGlobal + Drop> Work<R> {
             known: Known::new(alloc),
             touched: Touched::everything(alloc),
             broken: false,
+            is_reminded: true,
+            mask: None,
             rt,
         })
     }
@@ -47,6 +54,7 @@ impl<R: Files + Processes + AllocGlobal + Drop> Work<R> {
     pub fn look(&mut self, names: &[Name]) -> Result<Option<Found>, LookEnd>
         ensures touched { self.new.touched ≡ self.old.touched }
         ensures broken { self.new.broken ≡ self.old.broken }
+        ensures reminded { self.new.is_reminded ≡ self.old.is_reminded }
     {
         self.looks.look(&self.rt, self.rt.alloc(), names)
     }
@@ -81,6 +89,7 @@ impl<R: Files + Processes + AllocGlobal + Drop> Work<R> {
     pub fn is_empty(&mut self, path: &Path) -> Result<bool, LookEnd>
         ensures touched { self.new.touched ≡ self.old.touched }
         ensures broken { self.new.broken ≡ self.old.broken }
+        ensures reminded { self.new.is_reminded ≡ self.old.is_reminded }
     {
         is_empty_at(&self.rt, &mut self.looks, self.rt.alloc(), path.names())
     }
@@ -134,17 +143,20 @@ impl<R: Files + Processes + AllocGlobal + Drop> Work<R> {
         }
     }
 
-    /// Makes all changes durable. Where a sync has failed, each later one fails: the host tells of a lost write only once.
-    pub fn sync(&mut self) -> Result<(), LookEnd>
+    /// Does what a reminder tells that was left, and then makes all changes durable. Where a sync has failed, each later one fails: the
+    /// host tells of a lost write only once.
+    pub fn sync(&mut self, reminder: Option<&Reminder>) -> Result<(), LookEnd>
         ensures stays_broken { self.old.broken ≡ true → IsErr result }
         ensures breaks { IsErr result → self.new.broken ≡ true }
         ensures empty { OnOk result (IsEmpty self.new.touched.paths ×
             (self.new.touched.all ≡ false)) }
+        ensures forgotten { OnOk result (self.new.is_reminded ≡ false) }
     {
         if self.broken {
             return Err(LookEnd::Failed);
         }
         self.broken = true;
+        self.do_reminded(reminder)?;
         self.sync_touched()?;
         self.touched = Touched::nothing(self.rt.alloc());
         self.broken = false;
@@ -153,6 +165,7 @@ impl<R: Files + Processes + AllocGlobal + Drop> Work<R> {
 
     fn sync_touched(&mut self) -> Result<(), LookEnd>
         ensures broken { self.new.broken ≡ self.old.broken }
+        ensures reminded { self.new.is_reminded ≡ self.old.is_reminded }
     {
         let alloc = self.rt.alloc();
         if !self.touched.all
