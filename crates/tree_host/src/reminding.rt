@@ -125,12 +125,7 @@ impl<R: Files + Processes + AllocGlobal + Drop> Work<R> {
         self.is_reminded = true;
         self.touched.note_parent(self.rt.alloc(), &reminder.place);
         let target = path.text()?;
-        doing::make_link(
-            &self.rt,
-            &self.touched,
-            &reminder.place,
-            target.as_str(),
-        )
+        doing::make_link(&self.rt, &self.touched, &reminder.place, target.as_str())
     }
 
     // Removes the reminder. A failure is tried once more.
