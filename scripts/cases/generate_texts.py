@@ -100,6 +100,10 @@ def regexps():
         yield row("found", regexp, text), "yes" if is_found else "no"
     for regexp, to, name, renamed in given.RENAMED:
         yield row("rename", regexp, to, name), "not found" if renamed is None else fields(renamed)
+    for regexp, count, found in given.FOUND_OF:
+        yield row("found-of", regexp, count), str(found)
+    for regexp, to, count, renamed, last in given.RENAMED_OF:
+        yield row("rename-of", regexp, to, count), fields(renamed, last)
     for to, groups, why in given.NO_TEMPLATES:
         yield row("template", to, groups), refused(why)
 

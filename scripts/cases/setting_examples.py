@@ -62,6 +62,8 @@ SETTINGS = [
     ('guess = [{regexp = "[a", command = "b"}, {regexp = "\\\\(", command = "b"}]', "refused: bad regexp guess.regexp, unclosed at byte 0", []),
     ('omit_regexp = "\\\\("\nguess = [{regexp = 1, command = "b"}]', "refused: wrong type guess.regexp", []),
     ("kept_old = -1\nz = 1", "refused: unknown key z", []),
+    ('omit_regexp = "\\\\("\nz = 1', "refused: unknown key z", []),
+    ('omit_regexp = "\\\\("\na', "refused: no TOML", []),
     ("z = 1\na = 1", "refused: unknown key a", []),
     ('a = 1\nguess = [{regexp = "a", command = "b", c = 1}]', "refused: unknown key a", []),
     ("omit_regexp = 1\nkept_old = -1", "refused: wrong type kept_old", []),

@@ -129,6 +129,26 @@ RENAMED = [
     ('\\(1\\)\\(2\\)\\(3\\)\\(4\\)\\(5\\)\\(6\\)\\(7\\)\\(8\\)\\(9\\)', '\\9\\8\\7\\6\\5\\4\\10', '123456789', '98765410'),
 ]
 
+# a regexp, and in how many of so many names, file0 and so on, it is found. One search serves them all.
+FOUND_OF = [
+    ('7$', 0, 0),
+    ('7$', 8, 1),
+    ('7$', 100000, 10000),
+    ('^file[0-9]$', 1000, 10),
+    ('x', 1000, 0),
+    ('', 1000, 1000),
+]
+
+# a regexp, a template, how many of so many names, file0 and so on, are renamed, and the new name of the last of them
+RENAMED_OF = [
+    ('^file', 'x-\\&', 0, 0, ''),
+    ('^file', 'x-\\&', 100000, 100000, 'x-file99999'),
+    ('\\(.*\\)7$', '\\1x', 100000, 10000, 'file9999x'),
+    ('^file\\([0-9]\\)\\([0-9]\\)$', '\\2-\\1', 1000, 90, '9-9'),
+    ('\\(1\\)\\|0$', '[\\1]', 101, 29, 'file[1]00'),
+    ('x', 'y', 1000, 0, ''),
+]
+
 # texts that are no templates where a regexp has so many groups, and why
 NO_TEMPLATES = [
     ('\\1', 0, 'no such group at byte 0'),

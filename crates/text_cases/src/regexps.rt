@@ -1,10 +1,10 @@
 // Emacs regexps: how they are spelled, where they are found, and what they rename.
 use crate::answer::{field, word};
 use case_tables::{RowFault, number_of, text_of};
-use dired_text::{MemPatterns, Patterns, PatternsError};
-use emacs_regexp::{Ast, RegexpFault, found, groups, read, spell};
+use dired_text::{MemPatterns, Patterns, PatternsError, Text};
+use emacs_regexp::{Ast, Finder, RegexpFault, found, groups, read, spell};
 use regex::Regex;
-use rename_regexp::{ToFault, read_to, renamed};
+use rename_regexp::{Renamer, Template, ToFault, read_to, renamed};
 use std::alloc::Global;
 
 /// What is answered to a row of regexps.
@@ -24,6 +24,13 @@ pub fn answer(alloc: Global, fields: &[&str]) -> Result<String, RowFault> {
             text_of(alloc, regexp)?.as_str(),
             text_of(alloc, to)?.as_str(),
             text_of(alloc, name)?.as_str(),
+        ),
+        ["found-of", regexp, count] => found_of(alloc, text_of(alloc, regexp)?.as_str(), count),
+        ["rename-of", regexp, to, count] => renamed_of(
+            alloc,
+            text_of(alloc, regexp)?.as_str(),
+            text_of(alloc, to)?.as_str(),
+            count,
         ),
         _ => Err(RowFault::Bad),
     }
@@ -70,13 +77,57 @@ fn template(alloc: Global, to: &str, groups: u64) -> Result<String, RowFault> {
 
 fn renamed_by(alloc: Global, regexp: &str, to: &str, name: &str) -> Result<String, RowFault> {
     let (ast, regex) = built(alloc, regexp)?;
-    let template = match read_to(alloc, to, groups(&ast)) {
-        Ok(template) => template,
-        Err(ToFault::Memory) => return Err(RowFault::Memory),
-        Err(_) => return Err(RowFault::Bad),
-    };
+    let template = built_template(alloc, to, &ast)?;
     match renamed(alloc, &regex, &template, name)? {
         Some(text) => Ok(field(alloc, text.as_str())?),
         None => Ok(word(alloc, "not found")?),
+    }
+}
+
+// A template that is to be one for a regexp.
+fn built_template(alloc: Global, to: &str, regexp: &Ast) -> Result<Template, RowFault> {
+    match read_to(alloc, to, groups(regexp)) {
+        Ok(template) => Ok(template),
+        Err(ToFault::Memory) => Err(RowFault::Memory),
+        Err(_) => Err(RowFault::Bad),
+    }
+}
+
+// In how many of so many names, `file0` and so on, a regexp is found. One search serves them all.
+fn found_of(alloc: Global, regexp: &str, count: &str) -> Result<String, RowFault> {
+    let (_, regex) = built(alloc, regexp)?;
+    let mut finder = Finder::new(alloc, &regex)?;
+    let mut found: u32 = 0;
+    for number in 0..count_of(count)? {
+        let name = format!(in alloc; "file{number}")?;
+        if finder.found(name.as_str()) {
+            found = found.saturating_add(1);
+        }
+    }
+    Ok(format!(in alloc; "{found}")?)
+}
+
+// How many of so many names are renamed, and the new name of the last of them. One search serves them all.
+fn renamed_of(alloc: Global, regexp: &str, to: &str, count: &str) -> Result<String, RowFault> {
+    let (ast, regex) = built(alloc, regexp)?;
+    let template = built_template(alloc, to, &ast)?;
+    let mut renamer = Renamer::new(alloc, &regex, &template)?;
+    let mut renamed: u32 = 0;
+    let mut last = Text::copy_of(alloc, "")?;
+    for number in 0..count_of(count)? {
+        let name = format!(in alloc; "file{number}")?;
+        if let Some(text) = renamer.renamed(name.as_str())? {
+            renamed = renamed.saturating_add(1);
+            last = text;
+        }
+    }
+    let last = field(alloc, last.as_str())?;
+    Ok(format!(in alloc; "{renamed} {last}")?)
+}
+
+fn count_of(text: &str) -> Result<u32, RowFault> {
+    match text.parse::<u32>() {
+        Ok(count) => Ok(count),
+        Err(_) => Err(RowFault::Bad),
     }
 }

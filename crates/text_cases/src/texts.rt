@@ -33,7 +33,7 @@ impl Texts {
             ["line" | "date" | "minute" | "order" | "switches", ..] => {
                 lines::answer(self.alloc, fields)
             }
-            ["regexp" | "found" | "template" | "rename", ..] => {
+            ["regexp" | "found" | "found-of" | "template" | "rename" | "rename-of", ..] => {
                 regexps::answer(self.alloc, fields)
             }
             ["quote" | "commands", ..] => shell::answer(self.alloc, fields),
