@@ -33,9 +33,10 @@ impl Texts {
             ["line" | "date" | "minute" | "order" | "switches", ..] => {
                 lines::answer(self.alloc, fields)
             }
-            ["regexp" | "found" | "found-of" | "template" | "rename" | "rename-of", ..] => {
-                regexps::answer(self.alloc, fields)
-            }
+            [
+                "regexp" | "found" | "found-of" | "template" | "rename" | "rename-of",
+                ..
+            ] => { regexps::answer(self.alloc, fields) }
             ["quote" | "commands", ..] => shell::answer(self.alloc, fields),
             ["find-words" | "find-meets" | "find", ..] => finds::answer(self.alloc, fields),
             ["edits", before, after] => buffers::answer(self.alloc, before, after),
