@@ -25,6 +25,13 @@ pub fn answer(alloc: Global, fields: &[&str]) -> Result<String, RowFault> {
             text_of(alloc, to)?.as_str(),
             text_of(alloc, name)?.as_str(),
         ),
+        _ => Err(RowFault::Bad),
+    }
+}
+
+/// What is answered to a row that asks of many names.
+pub fn answer_of(alloc: Global, fields: &[&str]) -> Result<String, RowFault> {
+    match fields {
         ["found-of", regexp, count] => found_of(alloc, text_of(alloc, regexp)?.as_str(), count),
         ["rename-of", regexp, to, count] => renamed_of(
             alloc,

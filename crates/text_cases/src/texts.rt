@@ -27,22 +27,6 @@ impl Texts {
     // What is answered to a row.
     fn answer(&mut self, fields: &[&str]) -> Result<String, RowFault> {
         match fields {
-            ["resolve" | "escape" | "escape-in-link" | "unescape", ..] => {
-                names::answer(self.alloc, fields)
-            }
-            ["line" | "date" | "minute" | "order" | "switches", ..] => {
-                lines::answer(self.alloc, fields)
-            }
-            [
-                "regexp" | "found" | "found-of" | "template" | "rename" | "rename-of",
-                ..
-            ] => { regexps::answer(self.alloc, fields) }
-            ["quote" | "commands", ..] => shell::answer(self.alloc, fields),
-            ["find-words" | "find-meets" | "find", ..] => finds::answer(self.alloc, fields),
-            ["edits", before, after] => buffers::answer(self.alloc, before, after),
-            ["journal", bytes] => journals::answer(self.alloc, bytes),
-            ["long-journal", count, length] => journals::long(self.alloc, count, length),
-            ["shelf" | "sink" | "shell" | "patterns", ..] => outside::answer(self.alloc, fields),
             ["settings", text] => settings::read(self.alloc, text, &mut self.rules),
             ["omitted" | "omitted-of" | "guess", ..] => settings::answer(
                 self.alloc,
@@ -54,9 +38,30 @@ impl Texts {
                 self.marks = marks::marks_of(self.alloc, words)?;
                 marks::shown(self.alloc, &self.marks)
             }
-            fields => marks::answer(self.alloc, &mut self.marks, fields),
+            fields => match answer_alone(self.alloc, fields) {
+                Some(answer) => answer,
+                None => marks::answer(self.alloc, &mut self.marks, fields),
+            },
         }
     }
+}
+
+// What is answered to a row that stands for itself, or None where it is another one.
+fn answer_alone(alloc: Global, fields: &[&str]) -> Option<Result<String, RowFault>> {
+    let answer = match fields {
+        ["resolve" | "escape" | "escape-in-link" | "unescape", ..] => names::answer(alloc, fields),
+        ["line" | "date" | "minute" | "order" | "switches", ..] => lines::answer(alloc, fields),
+        ["regexp" | "found" | "template" | "rename", ..] => regexps::answer(alloc, fields),
+        ["found-of" | "rename-of", ..] => regexps::answer_of(alloc, fields),
+        ["quote" | "commands", ..] => shell::answer(alloc, fields),
+        ["find-words" | "find-meets" | "find", ..] => finds::answer(alloc, fields),
+        ["edits", before, after] => buffers::answer(alloc, before, after),
+        ["journal", bytes] => journals::answer(alloc, bytes),
+        ["long-journal", count, length] => journals::long(alloc, count, length),
+        ["shelf" | "sink" | "shell" | "patterns", ..] => outside::answer(alloc, fields),
+        _ => return None,
+    };
+    Some(answer)
 }
 
 impl Table for Texts {
