@@ -45,7 +45,7 @@ renames() {
     case $1 in
         vidir) "$@" ;;
         mmv) mmv '*.txt' '#1.md' ;;
-        *) "$@" *.txt ;;
+        *) "$@" ./*.txt ;;
     esac 2> /dev/null
 }
 
@@ -64,11 +64,11 @@ bench() {
         peer file-rename file-rename 's/\.txt$/.md/'
         peer mmv mmv
     fi
-    export -f "$edit"
+    export -f "${edit?}"
     printf '#!/bin/bash\nfiles=%s\n%s\n%s < "$1" > "$1.new"\ncp "$1.new" "$1"\n' "$files" "$(declare -f "$edit")" "$edit" > "$work/editor"
     chmod 755 "$work/editor"
     export EDITOR="$work/editor" VISUAL="$work/editor"
-    [ "$edit" = below ] || peer qmv qmv -f do -e "$work/editor"
+    [ "$edit" = below ] || peer qmv qmv --format=do -e "$work/editor"
     peer vidir vidir .
     echo "$line"
 }

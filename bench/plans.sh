@@ -26,6 +26,6 @@ measure() {
 }
 
 for shape in suffix cycle swaps chain; do
-    for count in ${COUNTS:-131072 262144}; do measure $shape $count; done
+    for count in ${COUNTS:-131072 262144}; do measure "$shape" "$count"; done
 done
-for depth in ${DEPTHS:-200 400}; do measure nested $depth; done
+for depth in ${DEPTHS:-200 400}; do measure nested "$depth"; done

@@ -1,3 +1,4 @@
+# shellcheck shell=bash disable=SC2034
 # Sourced by the benches: their program, which is their first argument, a folder of their own, and what times a command.
 top=$(dirname "$(readlink -f "$0")")/..
 program=$(readlink -f "${1:-$top/crates/dired_cli/out/dired_cli}")

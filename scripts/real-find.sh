@@ -6,5 +6,5 @@ set -eu
 here=$(dirname "$(readlink -f "$0")")
 program=${1:-$here/../crates/text_cases/out/text_cases}
 [ -x "$program" ] || { echo "real-find: skipped, no program at $program"; exit 0; }
-find --version 2>/dev/null | grep -q GNU || { echo "real-find: skipped, no GNU find"; exit 0; }
+find . -version 2> /dev/null | grep -q GNU || { echo "real-find: skipped, no GNU find"; exit 0; }
 python3 "$here/drawn_finds.py" "$program" "${2:-1000}" "${3:-1}"

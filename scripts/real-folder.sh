@@ -11,7 +11,7 @@ failed=0
 
 # A fresh folder with the files a and b, its listing in before, and a copy of it in after.
 fresh() {
-    rm -rf "$work"/*
+    rm -rf "${work:?}"/*
     mkdir "$work/tree"
     printf 'first\n' > "$work/tree/a"
     printf 'second\n' > "$work/tree/b"
@@ -21,7 +21,7 @@ fresh() {
 }
 
 # The names in the folder with the inode and the bytes of each.
-shown() { (cd "$work/tree" && for f in $(ls -A); do printf '%s %s %s\n' "$f" "$(stat -c %i "$f")" "$(md5sum < "$f")"; done); }
+shown() { (cd "$work/tree" && for f in $(find . -mindepth 1 -maxdepth 1 -printf "%f\n" | sort); do printf '%s %s %s\n' "$f" "$(stat -c %i "$f")" "$(md5sum < "$f")"; done); }
 
 # Runs the program in the folder, with at most `limit` KiB of memory where that is set; its status and output must be these: run NAME STATUS OUTPUT WORDS..
 limit=
@@ -142,7 +142,7 @@ run 'too many bytes of paths' 18 $'dired: too large: PathBytes 67123200\n' commi
 [ "$before" = "$(ls -lA --full-time "$work/tree")" ] || { failed=1; echo 'FAILED: too many bytes of paths: the folder changed'; }
 sed -i '4s|d*/||g' "$work/after"
 run 'as many bytes of paths as there may be' 0 "${done_one/1, retargeted 0, modes 0, replaced 0, made 0/1747, retargeted 0, modes 0, replaced 0, made 15}" commit ../before ../after
-[ "$(ls "$work/tree/${below}" | wc -l)" = 1747 ] || { failed=1; echo 'FAILED: as many bytes of paths as there may be'; }
+[ "$(find "$work/tree/${below}" -type f | wc -l)" = 1747 ] || { failed=1; echo 'FAILED: as many bytes of paths as there may be'; }
 
 fresh; mkdir "$work/tree/d"; (cd "$work/tree" && "$program" list d > ../before); sed 's/ a$/ d\/e/' "$work/before" > "$work/after"
 run 'into another directory' 0 "$done_one" commit ../before ../after
@@ -170,7 +170,7 @@ run 'a link in place of the file' 10 $'dired: line 4: the file is not as shown\n
 fresh; sed -i 's/ a$/ c/' "$work/after"; rm "$work/tree/a"; mkfifo "$work/tree/a"
 run 'a pipe in place of the file' 4 $'dired: kind failed; nothing was decided\n' commit ../before ../after
 fresh; sed -i 's/ a$/ c/' "$work/after"
-(cd "$work/tree" && cat ../before | "$program" commit - ../after) > "$work/printed"; got=$?
+(cd "$work/tree" && "$program" commit - ../after < ../before) > "$work/printed"; got=$?
 { [ "$got" = 0 ] && [ "$(cat "$work/printed")$(printf '\n')" = "${done_one%$'\n'}" ]; } || { failed=1; echo "FAILED BEFORE on standard input: status $got"; }
 fresh; sed -i 's/ a$/ c/' "$work/after"
 (cd "$work/tree" && "$program" commit ../before ../after >&-); got=$?

@@ -60,6 +60,7 @@ lists() {
 # Field by field and line by line as `ls` has it, where names have neither blanks nor escapes. `ls` shows an access list by a byte
 # behind the mode, and lists pipes and sockets.
 as_ls() {
+    # shellcheck disable=SC2012
     ls -lA --time-style=long-iso | sed -n 's/^\([-dl].........\)[.+@]*/\1/p' | awk '{ $1 = $1; print }' > "$work/wanted"
     "$program" list | sed -n '4,$s/^  //p' | awk '{ $1 = $1; print }' > "$work/printed"
     cmp -s "$work/wanted" "$work/printed" || { fail "$1: as ls has it and as printed:"; diff "$work/wanted" "$work/printed" | head -40; }
@@ -72,7 +73,7 @@ fresh; run 'an empty folder' 0 $'dired 1\n  .:\n  total 0\n' list
 fresh
 for mode in 0 644 755 4755 4644 2755 2645 1644 1755 6777 7777; do : > "f$mode"; chmod "$mode" "f$mode"; done
 for mode in 700 755 1777 2775 1770; do mkdir "d$mode"; chmod "$mode" "d$mode"; done
-: > Upper; : > lower; : > _; : > 10; : > 9; : > .hidden; : > 'name~'
+: > Upper; : > lower; : > _; : > ./10; : > ./9; : > .hidden; : > 'name~'
 printf 'hello' > five; ln five five.again; ln five d755/five
 head -c 123456 /dev/zero > large; truncate -s 5G sparse 2> /dev/null || rm -f sparse
 ln -s five to_file; ln -s d755 to_dir; ln -s nothing to_nothing; ln -s /etc/passwd absolute; ln -s ../five d755/up

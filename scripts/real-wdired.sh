@@ -75,7 +75,7 @@ fresh; echo c > "$work/tree/c "; editor 's/ *$//'; run 'blanks stripped' 1 'l\n'
 fresh; export EDITOR=$work/nothing; run 'no editor' 1 ''; tells 'no editor' 'could not be started'; stands 'no editor' 'a=a b=b k=k'
 fresh; export EDITOR=false; run 'an editor that fails' 1 ''; tells 'an editor that fails' 'ended with 1'; clean 'an editor that fails'
 fresh; editor 's/ a$/ c/'; run 'an editor with words' 0 ''; EDITOR="$EDITOR -w"; fresh; rm -f "$work/turn"; run 'an editor with words' 0 ''; grep -q -- '-w .*dired$' "$work/opened" || fail 'an editor with words' "$(cat "$work/opened")"
-fresh; editor 's/ a$/ c/'; VISUAL=$EDITOR EDITOR=false run 'VISUAL first' 0 ''; stands 'VISUAL first' 'b=b c=a k=k'
+fresh; editor 's/ a$/ c/'; export VISUAL=$EDITOR EDITOR=false; run 'VISUAL first' 0 ''; unset VISUAL; stands 'VISUAL first' 'b=b c=a k=k'
 
 # The folder changes while it is edited.
 fresh; editor 's/ a$/ c/'; printf 'mv "%s/tree/a" "%s/tree/z"\n' "$work" "$work" >> "$work/editor"; run 'changed meanwhile' 10 ''; tells 'changed meanwhile' 'not as shown'; kept 'changed meanwhile'
