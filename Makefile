@@ -3,6 +3,9 @@ VERSION = 0.1.0
 PREFIX ?= /usr/local
 INSTALLED = $(DESTDIR)$(PREFIX)
 PROGRAM = crates/dired_cli/out/dired_cli
+# The same program, compiled and not proved.
+COMPILED = crates/dired_cli/out/compiled/dired
+SOURCES = crates.txt $(wildcard crates/*/src/*.rt crates/*/specs/*.antt crates/*/proofs/*.antt)
 
 CASES = crates/dired_cases/out/dired_cases
 PLANS = crates/commit_cases/out/commit_cases
@@ -11,9 +14,9 @@ SEED ?=
 
 .PHONY: demo test install uninstall deb bench fuzz crash
 
-# Proves and builds the program, and shows in a throw-away folder an edit, the same edit killed in the middle, and its recovery.
-demo: $(PROGRAM)
-	bash scripts/demo.sh $(PROGRAM)
+# Shows in a throw-away folder an edit, the same edit killed in the middle, and its recovery, by the program without its proofs.
+demo: $(COMPILED)
+	bash scripts/demo.sh $(COMPILED)
 
 # The gate: every proof, must-fail edit, test and program.
 test:
@@ -28,12 +31,16 @@ install: $(PROGRAM)
 	ln -sf dired $(INSTALLED)/share/bash-completion/completions/wdired
 	install -D -m 644 completions/_dired $(INSTALLED)/share/zsh/site-functions/_dired
 	install -D -m 644 completions/dired.fish $(INSTALLED)/share/fish/vendor_completions.d/dired.fish
+	for part in ftdetect ftplugin syntax; do install -D -m 644 editors/vim/$$part/dired.vim $(INSTALLED)/share/vim/vimfiles/$$part/dired.vim; done
+	install -D -m 644 editors/emacs/dired-listing.el $(INSTALLED)/share/emacs/site-lisp/dired-listing.el
 
 uninstall:
 	rm -f $(INSTALLED)/bin/dired $(INSTALLED)/bin/wdired
 	rm -f $(INSTALLED)/share/man/man1/dired.1 $(INSTALLED)/share/man/man1/wdired.1
 	rm -f $(INSTALLED)/share/bash-completion/completions/dired $(INSTALLED)/share/bash-completion/completions/wdired
 	rm -f $(INSTALLED)/share/zsh/site-functions/_dired $(INSTALLED)/share/fish/vendor_completions.d/dired.fish
+	for part in ftdetect ftplugin syntax; do rm -f $(INSTALLED)/share/vim/vimfiles/$$part/dired.vim; done
+	rm -f $(INSTALLED)/share/emacs/site-lisp/dired-listing.el
 
 # A package for Debian, dired_$(VERSION)_amd64.deb, of what `install` puts in place.
 deb: $(PROGRAM)
@@ -61,14 +68,18 @@ bench: $(PROGRAM) $(PLANS)
 	bash bench/plans.sh $(PLANS)
 
 # `rt run` proves, builds and runs; without words the program ends with status 1, so what counts is that it was built.
-$(PROGRAM): crates.txt $(wildcard crates/*/src/*.rt crates/*/specs/*.antt crates/*/proofs/*.antt)
+$(PROGRAM): $(SOURCES)
 	rm -f $@
 	cd crates/dired_cli && { rt run > out.log 2>&1 || true; }
 	test -x $@ || { tail -20 crates/dired_cli/out.log; exit 1; }
 	rm -f crates/dired_cli/out.log
 
+$(COMPILED): $(SOURCES)
+	@echo 'Compiling without proving anything, in about two minutes; `make install` proves what it installs.'
+	bash scripts/compile.sh $@
+
 # A program of cases ends well on an empty table.
-$(CASES) $(PLANS): crates.txt $(wildcard crates/*/src/*.rt crates/*/specs/*.antt crates/*/proofs/*.antt)
+$(CASES) $(PLANS): $(SOURCES)
 	rm -f $@
 	cd $(dir $(@D)) && { rt run < /dev/null > out.log 2>&1 || true; }
 	test -x $@ || { tail -20 $(dir $(@D))out.log; exit 1; }
