@@ -3,8 +3,6 @@ VERSION = 0.1.0
 PREFIX ?= /usr/local
 INSTALLED = $(DESTDIR)$(PREFIX)
 PROGRAM = crates/dired_cli/out/dired_cli
-# The same program, compiled and not proved.
-COMPILED = crates/dired_cli/out/compiled/dired
 SOURCES = crates.txt $(wildcard crates/*/src/*.rt crates/*/specs/*.antt crates/*/proofs/*.antt)
 
 CASES = crates/dired_cases/out/dired_cases
@@ -14,9 +12,9 @@ SEED ?=
 
 .PHONY: demo test install uninstall deb bench fuzz crash
 
-# Shows in a throw-away folder an edit, the same edit killed in the middle, and its recovery, by the program without its proofs.
-demo: $(COMPILED)
-	bash scripts/demo.sh $(COMPILED)
+# Proves and builds the program, and shows in a throw-away folder an edit, the same edit killed in the middle, and its recovery.
+demo: $(PROGRAM)
+	bash scripts/demo.sh $(PROGRAM)
 
 # The gate: every proof, must-fail edit, test and program.
 test:
@@ -73,10 +71,6 @@ $(PROGRAM): $(SOURCES)
 	cd crates/dired_cli && { rt run > out.log 2>&1 || true; }
 	test -x $@ || { tail -20 crates/dired_cli/out.log; exit 1; }
 	rm -f crates/dired_cli/out.log
-
-$(COMPILED): $(SOURCES)
-	@echo 'Compiling without proving anything, in about two minutes; `make install` proves what it installs.'
-	bash scripts/compile.sh $@
 
 # A program of cases ends well on an empty table.
 $(CASES) $(PLANS): $(SOURCES)
