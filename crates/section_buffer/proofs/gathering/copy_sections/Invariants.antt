@@ -1,0 +1,14 @@
+use Rattle.std.proofs.Common.{◌≡◌, ◌++◌, length, Contains, IfSome}
+use Rattle.std.specs.Option.{option_map}
+use Rattle.section_rows.specs.Orders.{rows_from, values_in}
+use Rattle.section_buffer.specs.Rows.{sections_of}
+use Rattle.section_buffer.proofs.gathering.copy_sections.Given as goal
+
+abbrev pub invariant-loop-at : goal.invariant-loop-at
+invariant-loop-at l = record {
+  within : IfSome l.at (λ row. Contains l.rows.order row.0);
+  sections : l.sections.items ++ sections_of (values_in l.rows.values (rows_from (option_map (λ row. row.0) l.at) l.rows.order)) ≡ sections_of (values_in l.rows.values l.rows.order);
+}
+
+abbrev pub decreases-loop-at : goal.decreases-loop-at
+decreases-loop-at l = length (rows_from (option_map (λ row. row.0) l.at) l.rows.order)

@@ -1,0 +1,6 @@
+pub mod Rows
+pub mod Places
+pub mod Buffers
+pub mod Held
+pub mod Printed
+pub mod Making
