@@ -290,7 +290,8 @@ heeded left 2700
 chmod 600 file; heeded file 600
 heeded nothing 0
 heeded ../tree 755; chmod 2700 made; heeded "$work/tree/made" 2700
-ln -s made link; heeded link 2700; heeded link/x 0
+ln -s made link; heeded link 777; heeded link/x 0
+[ "$(stat -c %a made)" = 2700 ] || fail "a reminder of a link: $(stat -c %a made) where it leads"
 ln -s made staging/f9
 calls 'the call that makes the next one' <<'L'
 make_dir s 2755 => done
@@ -340,7 +341,8 @@ if has strace && strace -qq -o "$work/trace" true 2> /dev/null; then
         [ ! -e s/d ] || [ "$(stat -c %a s/d)" = 755 ] || fail "killed at $place: $(stat -c %a s/d)"
         fresh; mkdir staging; mkdir -m 2755 s; chmod 2755 s
         strace -qq -o "$work/trace" -e trace="?$place,?${place}at" -e inject="?$place,?${place}at:error=EIO:when=1" "$program" < "$work/in" > "$work/printed" 2> "$work/errors"
-        wanted=failed; [ $place != unlink ] || wanted=done
+        wanted=failed
+        [ $place != unlink ] || wanted='done'
         [ "$(sed -n 's/^make_dir.*: //p' "$work/printed")" = $wanted ] || { fail "$place fails once"; cat "$work/printed"; }
         [ -z "$(ls -A staging)" ] || fail "$place fails once: a reminder stands"
         if [ $wanted = done ]; then [ "$(stat -c %a s/d)" = 755 ]; else [ ! -e s/d ]; fi || fail "$place fails once: what stands at s/d"
