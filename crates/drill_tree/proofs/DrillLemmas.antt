@@ -95,12 +95,12 @@ places_apart n = groups_apart (λ (m : Move). m.to) group_moves n
     (apart_weaker (λ (m o : Move). m.to ≢ o.to) (λ (m o : Move). group_name g ∷ m.to ≢ group_name g ∷ o.to) (moves (group_of g))
     (λ m o differ same. differ (same_rest (group_name g) (group_name g) m.to o.to same)) (law g).places))
 
-length_map : {X Y : Type 0} (f : X → Y) (xs : List X) → length (map f xs) ≡ length xs
+pub length_map : {X Y : Type 0} (f : X → Y) (xs : List X) → length (map f xs) ≡ length xs
 length_map f [] = refl
 length_map f (x ∷ xs) = let e = length_map f xs in omega (arith, e)
 
 pub moves_few : (n : ℕ) → length (drill_moves n) ≤ 7 * n
-moves_few n = flat_few group_moves 0 n (λ g. let few = (law g).few in let e = length_map (in_dir (group_name g)) (moves (group_of g)) in omega (arith, few, e))
+moves_few n = let all = flat_few 7 group_moves 0 n (λ g. let few = (law g).few in let e = length_map (in_dir (group_name g)) (moves (group_of g)) in omega (arith, few, e)) in omega (arith, all)
 
 -- ---- the edits
 

@@ -4,3 +4,4 @@ pub mod GroupLemmas
 pub mod DrillLemmas
 pub mod MadeLemmas
 pub mod WellLemmas
+pub mod HeldLemmas

@@ -86,15 +86,16 @@ module _ {X : Type 0} where
       let z : 0 + n ≡ n = omega arith in
       ap (λ (k : ℕ). flat_map f (range_with_len 0 k)) e ∙ flat_more f 0 n ∙ ap (λ (k : ℕ). flat_map f (range_with_len 0 n) ++ f k) z
 
-  pub flat_few : (f : ℕ → List X) (a n : ℕ) → ((g : ℕ) → length (f g) ≤ 7) → length (flat_map f (range_with_len a n)) ≤ 7 * n
-  flat_few f a zero few = omega arith
-  flat_few f a (suc n) few =
+  pub flat_few : (k : ℕ) (f : ℕ → List X) (a n : ℕ) → ((g : ℕ) → length (f g) ≤ k) → length (flat_map f (range_with_len a n)) ≤ n * k
+  flat_few k f a zero few = omega arith
+  flat_few k f a (suc n) few =
       let size = length-append (f a) (flat_map f (range_with_len (a + 1) n)) in
       let one = few a in
-      let rest = flat_few f (a + 1) n few in
-      omega (arith, size, one, rest)
+      let rest = flat_few k f (a + 1) n few in
+      let more : suc n * k ≡ k + n * k = omega arith in
+      omega (arith, size, one, rest, more)
 
-map_append : {X Y : Type 0} (f : X → Y) (xs ys : List X) → map f (xs ++ ys) ≡ map f xs ++ map f ys
+pub map_append : {X Y : Type 0} (f : X → Y) (xs ys : List X) → map f (xs ++ ys) ≡ map f xs ++ map f ys
 map_append f [] ys = refl
 map_append f (x ∷ xs) ys = ap (λ l. f x ∷ l) (map_append f xs ys)
 

@@ -12,7 +12,20 @@ use Rattle.tree_core.specs.declared.changes.Changes.{Changes}
 use Rattle.tree_core.specs.declared.changes.Changes.TheVariants.{Edits}
 use Rattle.tree_core.specs.FileTree.{FileTree}
 use Rattle.drill_tree.specs.declared.moves.Move.{Move}
-use Rattle.drill_tree.specs.Groups.{Held, below, group_name, group_of, held, moves}
+use Rattle.drill_tree.specs.Groups.{Held, below, directory, group_name, group_of, held, moves, one}
+
+-- ---- what the tree holds
+
+abbrev pub held_in : List ℕ → Held → Held
+held_in dir h = record { path = dir ∷ h.path; is_dir = h.is_dir }
+
+-- the directory of a group, and what it holds
+abbrev pub group_held : ℕ → List Held
+group_held g = directory (one (group_name g)) ∷ map (held_in (group_name g)) (held (group_of g))
+
+-- all but the root
+abbrev pub drill_held : ℕ → List Held
+drill_held n = flat_map group_held (below n)
 
 -- ---- the tree
 
@@ -26,6 +39,10 @@ entry_of numbers g h = (group_name g ∷ h.path, node_of numbers (group_name g �
 -- the directory of a group, and what it holds
 abbrev pub group_entries : (Names → ℕ) → ℕ → List (Names × Node)
 group_entries numbers g = (group_name g ∷ [], Dir 0o755) ∷ map (entry_of numbers g) (held (group_of g))
+
+-- the entry of what is held
+abbrev pub entry_at : (Names → ℕ) → Held → Names × Node
+entry_at numbers h = (h.path, node_of numbers h.path h.is_dir)
 
 -- all but the root
 abbrev pub entries_of : (Names → ℕ) → ℕ → List (Names × Node)

@@ -2,6 +2,7 @@
 use Rattle.std.specs.Prelude.{ℕ, ◌+◌, ◌/◌, ◌%◌, ◌==◌, Bool, true, false, List, [], ◌∷◌, ◌++◌, map, codes, if◌then◌else◌}
 use Rattle.std.specs.List.{range_with_len}
 use Rattle.dired_text.specs.Paths.{Names}
+pub use Rattle.drill_tree.specs.declared.entries.Held.{Held}
 use Rattle.drill_tree.specs.declared.group.Group.{Group}
 use Rattle.drill_tree.specs.declared.group.Group.TheVariants.{Chain, Cycle, Nested, Replacing, Swallowing}
 use Rattle.drill_tree.specs.declared.moves.Move.{Move}
@@ -27,11 +28,6 @@ abbrev pub group_name : ℕ → List ℕ
 group_name g = codes "g" ++ (48 + g / 100000) ∷ (48 + g / 10000 % 10) ∷ (48 + g / 1000 % 10) ∷ (48 + g / 100 % 10) ∷ (48 + g / 10 % 10) ∷ (48 + g % 10) ∷ []
 
 -- ---- what a group holds
-
--- an entry: its path, and whether it is a directory
-pub record Held : Type 0 where
-  pub path : Names
-  pub is_dir : Bool
 
 abbrev pub file : Names → Held
 file p = record { path = p; is_dir = false }

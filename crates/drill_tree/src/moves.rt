@@ -142,7 +142,7 @@ fn add_directory(alloc: Global, moves: &mut Vec<Move>, dir: &Name) -> Result<(),
 }
 
 // The name of a file of a cycle.
-fn cycle_name(alloc: Global, number: u32) -> Result<Name, Memory>
+pub(crate) fn cycle_name(alloc: Global, number: u32) -> Result<Name, Memory>
     requires { number ≤ 9 }
     ensures { IfOk result (λ n. n ≡ cycle_name_of number) }
 {
@@ -153,7 +153,7 @@ fn cycle_name(alloc: Global, number: u32) -> Result<Name, Memory>
 }
 
 // The path of this name in a directory of the root.
-fn path_of_one(alloc: Global, dir: &Name, name: &str) -> Result<Path, Memory>
+pub(crate) fn path_of_one(alloc: Global, dir: &Name, name: &str) -> Result<Path, Memory>
     requires name { IsTrue (is_name name.now) }
     ensures { IfOk result (λ p. p ≡ dir.now ∷ name.now ∷ []) }
 {
@@ -162,7 +162,12 @@ fn path_of_one(alloc: Global, dir: &Name, name: &str) -> Result<Path, Memory>
 }
 
 // The path of a name in a directory of such a directory.
-fn path_of_two(alloc: Global, dir: &Name, inner: &str, name: &str) -> Result<Path, Memory>
+pub(crate) fn path_of_two(
+    alloc: Global,
+    dir: &Name,
+    inner: &str,
+    name: &str,
+) -> Result<Path, Memory>
     requires inner { IsTrue (is_name inner.now) }
     requires name { IsTrue (is_name name.now) }
     ensures { IfOk result (λ p. p ≡ dir.now ∷ inner.now ∷ name.now ∷ []) }
@@ -176,7 +181,7 @@ fn path_of_two(alloc: Global, dir: &Name, inner: &str, name: &str) -> Result<Pat
 }
 
 // The path of names that aren't too long.
-fn known_path(alloc: Global, names: &[Name]) -> Result<Path, Memory>
+pub(crate) fn known_path(alloc: Global, names: &[Name]) -> Result<Path, Memory>
     requires { path_bytes names.now ≤ max_path_bytes }
     ensures { IfOk result (λ p. p ≡ names.now) }
 {

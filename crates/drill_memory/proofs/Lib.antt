@@ -1,0 +1,4 @@
+pub mod BuiltTrees
+pub mod NumberLemmas
+pub mod GoodEntries
+pub mod MemoryLemmas

@@ -1,0 +1,6 @@
+//! The tree of a drill in memory.
+#![tactic(auto)]
+
+mod making;
+
+pub use making::make_drill;
