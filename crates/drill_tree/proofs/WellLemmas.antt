@@ -77,13 +77,13 @@ source_of n r s o e = same_Some (group_name o.group ∷ o.move.source) s (sym (a
 place_of : (n : ℕ) (r : Row) (p : Names) (o : RowOf n r) → r.to ≡ Some p → group_name o.group ∷ o.move.to ≡ p
 place_of n r p o e = same_Some (group_name o.group ∷ o.move.to) p (sym (ap (λ (x : Row). x.to) o.is) ∙ e)
 
-written_of_row : (n : ℕ) (r : Row) (o : RowOf n r) → written r ≡ group_name o.group ∷ o.move.to
+pub written_of_row : (n : ℕ) (r : Row) (o : RowOf n r) → written r ≡ group_name o.group ∷ o.move.to
 written_of_row n r o = ap written o.is
 
 good_of : (n : ℕ) (r : Row) (o : RowOf n r) → IsGood (group_of o.group) o.move
 good_of n r o = (law o.group).good o.move o.listed
 
-far_of : (n : ℕ) (r : Row) (o : RowOf n r) → is_elsewhere r ≡ true → length o.move.to ≡ 1
+pub far_of : (n : ℕ) (r : Row) (o : RowOf n r) → is_elsewhere r ≡ true → length o.move.to ≡ 1
 far_of n r o far = far_is_one o.group o.line o.move (good_of n r o) (subst (λ (x : Row). is_elsewhere x ≡ true) o.is far)
 
 -- nothing that is written or moved is above the place of a row that goes elsewhere
