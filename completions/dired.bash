@@ -3,7 +3,7 @@ _dired() {
     local word=${COMP_WORDS[COMP_CWORD]} command=${COMP_WORDS[1]}
     COMPREPLY=()
     if [ "$COMP_CWORD" -eq 1 ]; then
-        mapfile -t COMPREPLY < <(compgen -W 'list commit recover' -- "$word")
+        mapfile -t COMPREPLY < <(compgen -W 'list commit recover drill' -- "$word")
         return
     fi
     case $command in

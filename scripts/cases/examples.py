@@ -339,6 +339,14 @@ def listings():
             for number, (tree, tried) in enumerate(cases, 1) for place, text in enumerate(tried, 1)]
 
 
+def drills():
+    """Drills of each kind of group, which leave the tree of the run alone, and words that are none."""
+    tried = ["drill %d" % groups for groups in (1, 2, 3, 4, 5, 7, 32)]
+    tried += ["drill", "drill 0", "drill 01", "drill 20001", "drill 4294967297", "drill +1", "drill -- 1", "drill -- -1", "drill 1 1", "drill -1",
+              "drill 1.", "drill x", "Drill 1"]
+    return [one_run(text, TWO, {}, text) for text in tried] + [one_run("drill of an empty word", TWO, {}, ["drill", ""])]
+
+
 def failing_looks():
     """Each look of a run fails in turn, and the one behind the last doesn't."""
     cases = []
@@ -470,4 +478,4 @@ def tree_with(*bodies, names="a b"):
 
 
 def examples():
-    return (renames() + together() + refusals() + bad_before() + bad_after() + words() + listings() + failing_looks() + failing_calls() + stopped() + recoveries())
+    return (renames() + together() + refusals() + bad_before() + bad_after() + words() + listings() + drills() + failing_looks() + failing_calls() + stopped() + recoveries())

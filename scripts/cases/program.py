@@ -1,5 +1,8 @@
 """What the program answers: status, text, the tree afterwards, and whether something is pending."""
+import re
+
 import buffers
+import drills
 import edits as rules
 import listing
 from commits import Commit
@@ -108,6 +111,8 @@ class Run:
             return self.commit(words[1:])
         if words[:1] == ["recover"]:
             return self.recover(words[1:])
+        if words[:1] == ["drill"]:
+            return self.drill(words[1:])
         raise usage()
 
     def list(self, words):
@@ -156,6 +161,12 @@ class Run:
         if ended[0] in RECOVERED:
             return RECOVERED[ended[0]]
         raise recovery_end(*ended)
+
+    def drill(self, words):
+        _, names = split_words(words, "", [])
+        if len(names) != 1 or not re.fullmatch("[1-9][0-9]*", names[0], re.ASCII) or int(names[0]) > drills.MAX_GROUPS:
+            raise usage()
+        return drills.line_of(int(names[0]))
 
     def carry_out(self, edits, emptied):
         """Commits all edits."""

@@ -1,16 +1,17 @@
 -- The commands, each as one simple command of `clap`, and what words ask for.
-use Rattle.std.specs.Prelude.{ℕ, Bool, true, false, ◌||◌, not, List, [], ◌∷◌, Option, Some, None, Result, Ok, Err, codes, if◌then◌else◌}
+use Rattle.std.specs.Prelude.{ℕ, zero, suc, Bool, true, false, ◌||◌, not, List, [], ◌∷◌, Option, Some, None, Result, Ok, Err, codes, if◌then◌else◌}
 use Rattle.std.specs.Str.{bytes_eq}
 use Rattle.dired_text.specs.Paths.{Names}
 use Rattle.dired_text.specs.Resolve.{resolved}
 use Rattle.dired_text.specs.declared.resolving.NameError.{NameError}
 use Rattle.dired_text.specs.declared.resolving.NameError.TheVariants as name_error
+use Rattle.listing_text.specs.Numbers.{number_of}
 use Rattle.listing_text.specs.declared.switches.Switches.{Switches}
 use Rattle.clap.specs.Words.{App, Rule, Row, new_app, new_rule, with_rule, fault_of, matches_of, first_of, all_of}
 use Rattle.clap.specs.Simple.{on_top}
 use Rattle.clap.specs.declared.builder.action.ArgAction.TheVariants.{Set, Append, SetTrue}
 use Rattle.command_words.specs.declared.command.Command.{Command}
-use Rattle.command_words.specs.declared.command.Command.TheVariants.{Commit, List as Lists, Recover}
+use Rattle.command_words.specs.declared.command.Command.TheVariants.{Commit, Drill, List as Lists, Recover}
 use Rattle.command_words.specs.declared.command.WordsFault.{WordsFault}
 use Rattle.command_words.specs.declared.command.WordsFault.TheVariants.{Usage, Memory}
 
@@ -132,6 +133,28 @@ recover_app = with_rule (plain_app (codes "recover")) (named_flag (codes "back")
 abbrev pub recover_by : List Row → Result Command WordsFault
 recover_by rows = Ok (Recover (is_set (codes "back") rows))
 
+-- ---- `drill N`
+
+abbrev pub drill_app : App
+drill_app = with_rule (plain_app (codes "drill")) (one_word (codes "N"))
+
+-- the most directories of a drill
+abbrev pub max_groups : ℕ
+max_groups = 20_000
+
+abbrev pub drill_of : Option ℕ → Result Command WordsFault
+drill_of None = Err Usage
+drill_of (Some zero) = Err Usage
+drill_of (Some (suc n)) = Ok (Drill (suc n))
+
+-- from 1 to 20,000 directories, in decimal without a leading zero
+abbrev pub drill_asked : Option (List ℕ) → Result Command WordsFault
+drill_asked None = Err Usage
+drill_asked (Some number) = drill_of (number_of max_groups number)
+
+abbrev pub drill_by : List Row → Result Command WordsFault
+drill_by rows = drill_asked (first_of (codes "N") rows)
+
 -- ---- the commands
 
 -- what words ask for: the first is compared, and the rest are the words of that command
@@ -141,4 +164,5 @@ command_of (command ∷ words) =
     if bytes_eq command (codes "list") then asked_by list_app list_by words
     else if bytes_eq command (codes "commit") then asked_by commit_app commit_by words
     else if bytes_eq command (codes "recover") then asked_by recover_app recover_by words
+    else if bytes_eq command (codes "drill") then asked_by drill_app drill_by words
     else Err Usage

@@ -29,6 +29,11 @@ pub enum Command {
         /// Whether to the old one, where both can be reached.
         back: bool,
     },
+    /// Commit the edits of a tree that is made in memory, and tell how many there were.
+    Drill {
+        /// How many directories the tree has at its root, from 1 to 20,000.
+        groups: u32,
+    },
 }
 
 /// Paths, in the order of the words.

@@ -4,6 +4,7 @@
 mod command;
 mod commit;
 mod defining;
+mod drill;
 mod list;
 mod matching;
 mod paths;

@@ -5,6 +5,7 @@ ghost use Rattle.command_words.specs.declared.command.WordsFault.TheVariants.{Me
 ghost use Rattle.command_words.specs.Commands.{command_of};
 
 use crate::commit::read_commit;
+use crate::drill::read_drill;
 use crate::list::read_list;
 use crate::recover::read_recover;
 use crate::{Command, WordsFault};
@@ -13,8 +14,8 @@ use std::alloc::Global;
 /// What the words of a command line, without the program's name, ask for.
 ///
 /// # Errors
-/// `Usage` exactly where the first word is no command, where the command's definition refuses the others, or where a word
-/// that names a directory is neither `.` nor a path from the root.
+/// `Usage` exactly where the first word is no command, where the command's definition refuses the others, where a word
+/// that names a directory is neither `.` nor a path from the root, or where the number of a drill isn't 1 to 20,000.
 pub fn read_words(alloc: Global, words: &[String]) -> Result<Command, WordsFault>
     ensures { IsOrMemory memory (command_of (map string_bytes words.now)) result }
 {
@@ -25,6 +26,7 @@ pub fn read_words(alloc: Global, words: &[String]) -> Result<Command, WordsFault
         "list" => read_list(alloc, rest),
         "commit" => read_commit(alloc, rest),
         "recover" => read_recover(alloc, rest),
+        "drill" => read_drill(alloc, rest),
         _ => Err(WordsFault::Usage),
     }
 }

@@ -30,9 +30,9 @@ use Rattle.dired_run.specs.Faults.{status_of_commit, status_of_recovery}
 use Rattle.dired_run.specs.Inputs.{Files, input_of, bytes_or_refusal, max_buffer_bytes}
 use Rattle.dired_run.specs.Requests.{of_inputs, of_buffer, of_edits, of_asks}
 use Rattle.dired_run.specs.Reports.{Said}
-use Rattle.dired_run.specs.Verdicts.{Verdict, Refuses, Makes, Lists, Recovers, unless, on_dirs}
-use Rattle.dired_run.specs.Runs.{Outside, Decides, no_memory, read_failed, look_failed, refused, listed, committed, recovered, verdict, of_request, of_command}
-use Rattle.dired_run.specs.WellFormed.{AreAllowed, CanCommit, CanList, CanRecover, IsWellFormed}
+use Rattle.dired_run.specs.Verdicts.{Verdict, Refuses, Makes, Lists, Recovers, Drills, unless, on_dirs}
+use Rattle.dired_run.specs.Runs.{Outside, Decides, no_memory, read_failed, look_failed, refused, listed, committed, recovered, drilled, verdict, of_request, of_command}
+use Rattle.dired_run.specs.WellFormed.{AreAllowed, CanCommit, CanDrill, CanList, CanRecover, IsWellFormed}
 
 within : (n m : ℕ) → n ≤ m → nat_lt m n ≡ false
 within n m le = le-ltb m n le
@@ -65,6 +65,9 @@ list_made words files t w =
 recovery_made : (words : List (List ℕ)) (files : Files) (t : FileTree) → (w : CanRecover words t) → verdict words files t ≡ Recovers w.back
 recovery_made words files t w = ap (λ c. of_command c files t) w.words_are
 
+drill_made : (words : List (List ℕ)) (files : Files) (t : FileTree) → (w : CanDrill words) → verdict words files t ≡ Drills w.groups
+drill_made words files t w = ap (λ c. of_command c files t) w.words_are
+
 -- Nothing is refused, and what is recovered is an interrupted commit.
 record IsTaken (words : List (List ℕ)) (t : FileTree) (v : Verdict) : Type 0 where
   not_refused : (status : Status) → v ≡ Refuses status → ⊥
@@ -81,7 +84,12 @@ well_formed_taken words files t tree (inr (inl list)) =
       not_refused = λ status is. let wrong : Lists list.switches list.dirs ≡ Refuses status = sym (list_made words files t list) ∙ is in cc;
       recovers = λ back is. absurd (let wrong : Lists list.switches list.dirs ≡ Recovers back = sym (list_made words files t list) ∙ is in cc);
     }
-well_formed_taken words files t tree (inr (inr recover)) =
+well_formed_taken words files t tree (inr (inr (inr drill))) =
+    record {
+      not_refused = λ status is. let wrong : Drills drill.groups ≡ Refuses status = sym (drill_made words files t drill) ∙ is in cc;
+      recovers = λ back is. absurd (let wrong : Drills drill.groups ≡ Recovers back = sym (drill_made words files t drill) ∙ is in cc);
+    }
+well_formed_taken words files t tree (inr (inr (inl recover))) =
     record {
       not_refused = λ status is. let wrong : Recovers recover.back ≡ Refuses status = sym (recovery_made words files t recover) ∙ is in cc;
       recovers = λ back is. recover;
@@ -133,6 +141,7 @@ decided_done words v before now decided text durable taken trees reads (listed s
 decided_done words v before now decided text durable taken trees reads (committed edits flagged ended is commits names count decides said) = commit_done ended before.tree_faults now.tree_faults decided trees names decides
 decided_done words v before now decided text durable taken trees reads (recovered back ended is recovers answers names count decides said) =
     recovery_done words back ended before.history now.history before.tree_faults now.tree_faults decided durable (taken.recovers back is) recovers trees names decides
+decided_done words v before now decided text durable taken trees reads (drilled groups is done said same count) = inl done
 
 said_done : (Told : Type 0) (decided : Status) (text tb t : List ℕ) (cb c : ℕ) (result : Status) → Stayed cb c → (decided ≡ Done) ⊎ (decided ≡ Memory) → Said Told decided text tb t cb c result → (result ≡ Done) ⊎ (result ≡ Memory)
 said_done Told decided text tb t cb c result stayed is (inl said) = ⊎_elim (λ e. inl (said.0 ∙ e)) (λ e. inr (said.0 ∙ e)) is

@@ -18,7 +18,7 @@ use Rattle.dired_run.specs.declared.status.Status.{Status}
 use Rattle.dired_run.specs.declared.status.Status.TheVariants.{Done, Usage, Memory}
 use Rattle.dired_run.specs.Faults.{status_of_commit, status_of_recovery}
 use Rattle.dired_run.specs.Reports.{decided_of, output_of}
-use Rattle.dired_run.specs.Runs.{Outside, Decides, IsDecided, IsSameTree, no_memory, read_failed, look_failed, refused, listed, committed, recovered}
+use Rattle.dired_run.specs.Runs.{Outside, Decides, IsDecided, IsSameTree, no_memory, read_failed, look_failed, refused, listed, committed, recovered, drilled}
 use Rattle.dired_run.specs.Statuses.{Sort, Success, Refusal, Encounter, Shortage, Reading, Calls, Writing, BySort, ByCause, IsDecisionOf, IsKeptBehind, IsRefusal, IsRefusalOf, IsTreeRefusal, IsTreeRefusalOf, LastReadBehind, ReadsBehind, calls_behind, has_fixed_text, has_fixed_text_of, sort_of, text_of}
 use Rattle.dired_run.specs.Verdicts.{Verdict}
 
@@ -59,6 +59,7 @@ kept_by v before now decided text (read_failed name is said same count last) = k
 kept_by v before now decided text (look_failed first look is said history found faults reads) = kept_same (sort_of decided) before.history now.history history
 kept_by v before now decided text (refused is said same reads) = kept_same (sort_of decided) before.history now.history same.history
 kept_by v before now decided text (listed switches dirs is done listing same reads) = kept_same (sort_of decided) before.history now.history same.history
+kept_by v before now decided text (drilled groups is done said same reads) = kept_same (sort_of decided) before.history now.history same.history
 kept_by v before now decided text (committed edits flagged ended is commits names reads decides said) =
     subst (λ s. IsKeptBehind (sort_of s) before.history now.history) (sym decides) (kept_by_commit (Edits edits) before.history now.history now.found ended commits)
 kept_by v before now decided text (recovered back ended is recovers answers names reads decides said) =

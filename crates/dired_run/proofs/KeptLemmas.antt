@@ -48,7 +48,7 @@ use Rattle.dired_run.specs.Inputs.{Files, input_of}
 use Rattle.dired_run.specs.Kept.{IsConfirmedVictim, IsDoneOrHeld, KeepsUnconfirmed, requested_by, requested_in, rows_of, taken_of}
 use Rattle.dired_run.specs.Reports.{Said}
 use Rattle.dired_run.specs.Requests.{Asked, of_asks, of_buffer, of_edits, of_inputs, request_of}
-use Rattle.dired_run.specs.Runs.{Outside, Decides, no_memory, read_failed, look_failed, refused, listed, committed, recovered, of_command, of_request, verdict}
+use Rattle.dired_run.specs.Runs.{Outside, Decides, no_memory, read_failed, look_failed, refused, listed, committed, recovered, drilled, of_command, of_request, verdict}
 use Rattle.dired_run.specs.Statuses.{IsDecisionOf, IsTreeRefusal, number_of, sort_of}
 use Rattle.dired_run.specs.Verdicts.{Refuses, Makes, on_tree, unless}
 use Rattle.dired_run.proofs.CarryLemmas.{check_refuses}
@@ -146,6 +146,7 @@ module _ (before now : Outside) (decided : Status) (text : List ℕ) (done : dec
   refused_not_done f (listed switches dirs is decides listing same reads) = cc
   refused_not_done f (committed edits flagged ended is commits names reads decides said) = cc
   refused_not_done f (recovered back ended is recovers answers names reads decides said) = cc
+  refused_not_done f (drilled groups is decides said same reads) = cc
 
   edited_at : (edits : List Edit) (ended : CommitEnd) → Commits (Edits edits) before.history now.history now.found ended → decided ≡ status_of_commit ended
       → current_tree now.history ≡ edited (current_tree before.history) (rows (Edits edits)) (made_for (current_tree before.history) (Edits edits) (next_number before.history))
@@ -167,6 +168,7 @@ module _ (before now : Outside) (decided : Status) (text : List ℕ) (done : dec
       let same : others ≡ edits = (let both : Makes edits flagged ≡ Makes others flags = is in cc) in
       edited_at edits ended (subst (λ (es : List Edit). Commits (Edits es) before.history now.history now.found ended) same commits) decides
   done_edited edits flagged (recovered back ended is recovers answers names reads decides said) = cc
+  done_edited edits flagged (drilled groups is decides said same reads) = cc
 
   module _ (sound : IsSound before.history) (request : Request) (asked : AreAsked (Edits request.edits)) where
     abbrev t : FileTree
@@ -202,6 +204,7 @@ module _ (before now : Outside) (decided : Status) (text : List ℕ) (done : dec
           keeps_request sound (request_of files b a confirmed) request whole (asked_by_inputs confirmed request b (input_of files b) (input_of files a) whole) decides
   keeps_command sound (Ok (command.List switches dirs)) files request is decides = cc
   keeps_command sound (Ok (command.Recover back)) files request is decides = cc
+  keeps_command sound (Ok (command.Drill groups)) files request is decides = cc
 
 -- ---- the answer
 

@@ -1,6 +1,7 @@
 mod CarryLemmas
 mod CompleteLemmas
 mod DecidedLemmas
+mod DrillLemmas
 mod InputLemmas
 mod KeptLemmas
 mod ListLemmas

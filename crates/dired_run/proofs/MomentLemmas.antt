@@ -28,8 +28,8 @@ use Rattle.dired_run.specs.declared.requests.Request.{Request}
 use Rattle.dired_run.specs.declared.status.Status.{Status}
 use Rattle.dired_run.specs.Inputs.{Files}
 use Rattle.dired_run.specs.Requests.{request_of}
-use Rattle.dired_run.specs.Runs.{Outside, Decides, MayLeave, no_memory, read_failed, look_failed, refused, listed, committed, recovered, of_command, of_request, verdict}
-use Rattle.dired_run.specs.Verdicts.{Verdict, Refuses, Makes, Lists, Recovers, on_dirs, on_tree, unless}
+use Rattle.dired_run.specs.Runs.{Outside, Decides, MayLeave, no_memory, read_failed, look_failed, refused, listed, committed, recovered, drilled, of_command, of_request, verdict}
+use Rattle.dired_run.specs.Verdicts.{Verdict, Refuses, Makes, Lists, Recovers, Drills, on_dirs, on_tree, unless}
 
 -- ---- Where edits are made nothing is staged.
 
@@ -62,6 +62,7 @@ of_command_unstaged (Ok (command.Commit all before after confirmed)) files t tre
     of_request_unstaged (request_of files before after (record { all = all; paths = confirmed })) t tree edits flagged is
 of_command_unstaged (Ok (command.List switches dirs)) files t tree edits flagged is = on_dirs_unstaged switches dirs (first_other t dirs) t edits flagged is
 of_command_unstaged (Ok (command.Recover back)) files t tree edits flagged is = cc
+of_command_unstaged (Ok (command.Drill groups)) files t tree edits flagged is = cc
 
 -- ---- the moments
 
@@ -70,6 +71,7 @@ unchanged (Refuses status) begun now same durable unstaged = unmoved begun now (
 unchanged (Makes edits flagged) begun now same durable unstaged =
     ([], unmoved begun now (MayStand (run_of (Edits edits) begun [])) same durable (nothing_staged (unstaged edits flagged refl) (inl refl)))
 unchanged (Lists switches dirs) begun now same durable unstaged = unmoved begun now (λ c. c ≡ current_tree begun) same durable refl
+unchanged (Drills groups) begun now same durable unstaged = unmoved begun now (λ c. c ≡ current_tree begun) same durable refl
 unchanged (Recovers back) begun now same durable unstaged =
     λ steps old new fresh tree absent few row. unmoved begun now (IsInterrupted steps old new fresh) same durable row
 
@@ -88,6 +90,7 @@ moments_by v before now decided text durable unstaged (read_failed name is said 
 moments_by v before now decided text durable unstaged (look_failed first look is said history found faults reads) = unchanged v before.history now.history history durable unstaged
 moments_by v before now decided text durable unstaged (refused is said same reads) = unchanged v before.history now.history same.history durable unstaged
 moments_by v before now decided text durable unstaged (listed switches dirs is done listing same reads) = unchanged v before.history now.history same.history durable unstaged
+moments_by v before now decided text durable unstaged (drilled groups is done said same reads) = unchanged v before.history now.history same.history durable unstaged
 moments_by v before now decided text durable unstaged (committed edits flagged ended is commits names reads decides said) =
     subst (λ u. MayLeave u before.history now.history) (sym is) (of_commit edits flagged before.history now.history now.found ended commits durable (unstaged edits flagged is))
 moments_by v before now decided text durable unstaged (recovered back ended is recovers answers names reads decides said) =

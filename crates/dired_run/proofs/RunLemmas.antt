@@ -11,7 +11,7 @@ use Rattle.dired_run.specs.declared.status.Status.{Status}
 use Rattle.dired_run.specs.declared.status.Status.TheVariants.{Memory, TreeFault}
 use Rattle.dired_run.specs.Faults.{status_of_commit, status_of_recovery}
 use Rattle.dired_run.specs.Reports.{Said, Reported, decided_of, output_of}
-use Rattle.dired_run.specs.Runs.{Outside, Decides, IsDecided, no_memory, read_failed, look_failed, refused, listed, committed, recovered}
+use Rattle.dired_run.specs.Runs.{Outside, Decides, IsDecided, no_memory, read_failed, look_failed, refused, listed, committed, recovered, drilled}
 use Rattle.dired_run.specs.Statuses.{has_fixed_text, text_of}
 use Rattle.dired_run.specs.Verdicts.{Verdict}
 use Rattle.dired_run.proofs.DecidedLemmas.{short_decided}
@@ -48,6 +48,7 @@ short_decides v before now decided text made (read_failed name is said same coun
 short_decides v before now decided text made (look_failed first look is said history found faults reads) = absurd (not_made decided (TreeFault first) made is refl)
 short_decides v before now decided text made (refused is said same reads) = no_memory refl refl same
 short_decides v before now decided text made (listed switches dirs is done listing same reads) = absurd (not_made decided _ made done refl)
+short_decides v before now decided text made (drilled groups is done said same reads) = absurd (not_made decided _ made done refl)
 short_decides v before now decided text made (committed edits flagged ended is commits names reads decides said) = absurd (not_made decided (status_of_commit ended) made decides (fixed_commit ended))
 short_decides v before now decided text made (recovered back ended is recovers answers names reads decides said) =
     short_recovery v before now back ended (subst (λ s. has_fixed_text s ≡ false) decides made) answers names

@@ -35,6 +35,7 @@ requested_in (Err fault) files = None
 requested_in (Ok (command.Commit all before after confirmed)) files = taken_of (request_of files before after (record { all = all; paths = confirmed }))
 requested_in (Ok (command.List switches dirs)) files = None
 requested_in (Ok (command.Recover back)) files = None
+requested_in (Ok (command.Drill groups)) files = None
 
 -- what the words of a commit and its inputs ask for, if they are taken
 abbrev pub requested_by : List (List ℕ) → Files → Option Request

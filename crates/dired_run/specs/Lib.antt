@@ -1,3 +1,4 @@
+pub mod Drills
 pub mod Faults
 pub mod Inputs
 pub mod Kept

@@ -33,11 +33,12 @@ use Rattle.subdir_list.specs.Listings.{IsListing, first_other}
 use Rattle.dired_run.specs.declared.requests.Request.{Request}
 use Rattle.dired_run.specs.declared.status.Status.{Status}
 use Rattle.dired_run.specs.declared.status.Status.TheVariants.{Done, Usage, Memory, ReadFault, TreeFault}
+use Rattle.dired_run.specs.Drills.{IsDrillText}
 use Rattle.dired_run.specs.Faults.{status_of_commit, status_of_recovery}
 use Rattle.dired_run.specs.Inputs.{Files}
 use Rattle.dired_run.specs.Requests.{request_of}
 use Rattle.dired_run.specs.Statuses.{IsDecisionOf, IsKeptBehind, LastReadBehind, ReadsBehind, calls_behind, sort_of, text_of}
-use Rattle.dired_run.specs.Verdicts.{Verdict, Refuses, Makes, Lists, Recovers, on_tree, on_dirs, recovered_text, summary_of}
+use Rattle.dired_run.specs.Verdicts.{Verdict, Refuses, Makes, Lists, Recovers, Drills, on_tree, on_dirs, recovered_text, summary_of}
 
 abbrev pub of_request : Result Request Status → FileTree → Verdict
 of_request (Err status) t = Refuses status
@@ -49,8 +50,9 @@ of_command (Err words_fault.Memory) files t = Refuses Memory
 of_command (Ok (command.Commit all before after confirmed)) files t = of_request (request_of files before after (record { all = all; paths = confirmed })) t
 of_command (Ok (command.List switches dirs)) files t = on_dirs switches dirs (first_other t dirs)
 of_command (Ok (command.Recover back)) files t = Recovers back
+of_command (Ok (command.Drill groups)) files t = Drills groups
 
--- The first refusal, in the order of words, inputs, lines and tree, or the edits that are made, or the listing, or the recovery.
+-- The first refusal, in the order of words, inputs, lines and tree, or the edits that are made, or the listing, the recovery or the drill.
 abbrev pub verdict : List (List ℕ) → Files → FileTree → Verdict
 verdict words files t = of_command (command_of words) files t
 
@@ -106,6 +108,7 @@ IsLookFor (Refuses status) call = Unit {0}
 IsLookFor (Makes edits flagged) call = IsLook call
 IsLookFor (Lists switches dirs) call = Unit {0}
 IsLookFor (Recovers back) call = Unit {0}
+IsLookFor (Drills groups) call = ⊥
 
 -- How a run comes to decide a status, and what it then writes last.
 pub data Decides (v : Verdict) (before now : Outside) (decided : Status) (text : List ℕ) : Type 0 where
@@ -133,6 +136,9 @@ pub data Decides (v : Verdict) (before now : Outside) (decided : Status) (text :
       → Answers back before.history now.history now.found ended → recovery_faults.NamesFaults before.tree_faults now.tree_faults ended
       → now.read_faults ≡ before.read_faults → decided ≡ status_of_recovery ended → text ≡ last_text decided (recovered_text ended)
       → Decides v before now decided text
+  -- A drill tells what its commit did in a tree in memory. It never looks at the tree of the run.
+  drilled : (groups : ℕ) → v ≡ Drills groups → decided ≡ Done → IsDrillText groups text → IsSameTree before now → now.read_faults ≡ before.read_faults
+      → Decides v before now decided text
 
 -- What a crash at any moment of a run leaves: the tree from before; or where edits are made, for one list of steps, what may stand
 -- where their commit was stopped. Where a commit was stopped and is recovered, it leaves what may stand there for the same trees.
@@ -140,6 +146,7 @@ abbrev pub MayLeave : Verdict → History → History → Type 0
 MayLeave (Refuses status) begun now = LeavesOnly begun now (λ c. c ≡ current_tree begun)
 MayLeave (Makes edits flagged) begun now = (steps : List Step) × LeavesOnly begun now (MayStand (run_of (Edits edits) begun steps))
 MayLeave (Lists switches dirs) begun now = LeavesOnly begun now (λ c. c ≡ current_tree begun)
+MayLeave (Drills groups) begun now = LeavesOnly begun now (λ c. c ≡ current_tree begun)
 MayLeave (Recovers back) begun now =
     (steps : List Step) (old new : FileTree) (fresh : List Node) → IsTree old → IsAbsent old staging → length fresh ≤ 2 ^ 32
     → IsInterrupted steps old new fresh (current_tree begun) → LeavesOnly begun now (IsInterrupted steps old new fresh)

@@ -1,4 +1,4 @@
--- What is to become of the tree: a refusal or edits; a listing of it; or a recovery.
+-- What is to become of the tree: a refusal or edits; a listing of it; a recovery; or nothing, but a drill in memory.
 use Rattle.std.specs.Prelude.{ℕ, Bool, List, [], ◌++◌, codes, decimal, flat_map, length, Option, Some, None}
 use Rattle.dired_text.specs.Paths.{Names, joined}
 use Rattle.tree_core.specs.declared.changes.Changes.TheVariants.{Edits}
@@ -20,12 +20,13 @@ use Rattle.dired_run.specs.Faults.{status_of_fault}
 use Rattle.dired_run.specs.Statuses.{path_text}
 
 -- a refusal; or these edits are made, and these names were emptied; or the root and these directories are listed; or what an
--- interrupted commit left is recovered (`true`: back)
+-- interrupted commit left is recovered (`true`: back); or the edits of a drill are committed, of so many directories
 pub data Verdict : Type 0 where
   Refuses : Status → Verdict
   Makes : List Edit → List Names → Verdict
   Lists : Switches → List Names → Verdict
   Recovers : Bool → Verdict
+  Drills : ℕ → Verdict
 
 abbrev pub unless : Option CheckFault → Verdict → Verdict
 unless None verdict = verdict

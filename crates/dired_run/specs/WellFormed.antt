@@ -65,5 +65,10 @@ pub record CanRecover (words : List (List ℕ)) (t : FileTree) : Type 0 where
   pub few : length fresh ≤ 2 ^ 32
   pub interrupted : IsInterrupted steps old new fresh t
 
+-- The words are those of a drill, for which the tree doesn't matter.
+pub record CanDrill (words : List (List ℕ)) : Type 0 where
+  pub groups : ℕ
+  pub words_are : command_of words ≡ Ok (command.Drill groups)
+
 abbrev pub IsWellFormed : List (List ℕ) → Files → FileTree → Type 0
-IsWellFormed words files t = CanCommit words files t ⊎ (CanList words t ⊎ CanRecover words t)
+IsWellFormed words files t = CanCommit words files t ⊎ (CanList words t ⊎ (CanRecover words t ⊎ CanDrill words))

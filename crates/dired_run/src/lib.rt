@@ -2,6 +2,7 @@
 #![tactic(auto)]
 
 mod commit;
+mod drilling;
 mod inputs;
 mod listing;
 mod output;

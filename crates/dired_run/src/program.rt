@@ -14,6 +14,7 @@ ghost use Rattle.dired_run.specs.WellFormed.{IsWellFormed};
 
 use crate::Status;
 use crate::commit::carry_out;
+use crate::drilling::drill;
 use crate::listing::list;
 use crate::output::Output;
 use crate::recovery::recover_tree;
@@ -29,7 +30,8 @@ use tree_core::{Confirmed, Items, Tree};
 /// `list [-A] [-l] [-t] [-S] [-r] [DIR]...` prints the listing of the root and of each DIR. `commit [--all] BEFORE AFTER
 /// [CONFIRMED]...` compares a listing as printed with the same listing as edited, checks all edits against the tree, and
 /// commits them, all or none; it names the entries whose names were emptied. `recover [--back]` brings what an interrupted
-/// commit left to the old or the edited tree, and tells which. None of these uses the patterns, the shell or the time, `now`.
+/// commit left to the old or the edited tree, and tells which. `drill N` commits the edits of a tree of its own in memory, and tells
+/// how many there were; it leaves `tree` alone. None of these uses the patterns, the shell or the time, `now`.
 pub fn run<T: Tree, H: Shelf, P: Patterns, S: Shell, W: Sink>(
     alloc: Global,
     words: &[String],
@@ -130,6 +132,7 @@ fn decide<T: Tree, H: Shelf>(
             commit_buffers(alloc, tree, shelf, &before, &after, confirmed)
         }
         Ok(Command::Recover { back }) => recover_tree(alloc, tree, back),
+        Ok(Command::Drill { groups }) => drill(alloc, groups),
         Err(WordsFault::Usage) => Err(Status::Usage),
         Err(WordsFault::Memory) => Err(Status::Memory),
     }

@@ -92,11 +92,11 @@ held_fit earlier before number (h ∷ hs) dirs nodes few o = (
       (λ p c. elim (Contains-push_cases before h (directory p) c) [
         | inl old ↦ let d = dirs p old in (d.0, Contains-append_left (root_entry ∷ earlier) (entry_numbered number h ∷ []) d.0 d.1, d.2, d.3)
         | inr same ↦ (
-            entry_numbered number h,
-            Contains-push (root_entry ∷ earlier) (entry_numbered number h),
-            ap (λ (x : Held). x.path) same,
-            ap (λ (x : Held). node_numbered number x.is_dir) same,
-          )
+          entry_numbered number h,
+          Contains-push (root_entry ∷ earlier) (entry_numbered number h),
+          ap (λ (x : Held). x.path) same,
+          ap (λ (x : Held). node_numbered number x.is_dir) same,
+        )
       ])
       (λ f c. elim (Contains-push_cases earlier (entry_numbered number h) f c) [
         | inl old ↦ nodes f old

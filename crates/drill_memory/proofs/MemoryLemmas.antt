@@ -39,9 +39,9 @@ entries_differ n = apart_of_map pair OtherPath (root_entry ∷ numbered 0 (drill
 
 made_tree : (n : ℕ) → built root_tree (numbered 0 (drill_held n)) ≡ drill_tree (numbers n) n
 made_tree n = same_tree (built root_tree (numbered 0 (drill_held n))) (drill_tree (numbers n) n) (λ q.
-      built_root (numbered 0 (drill_held n)) q (entries_differ n)
-      ∙ ap (λ (l : List (Names × Node)). find path_cmp q (([], Dir 0o755) ∷ l)) (pairs n)
-      ∙ sym (get-made (all_entries (numbers n) n) q))
+    built_root (numbered 0 (drill_held n)) q (entries_differ n)
+    ∙ ap (λ (l : List (Names × Node)). find path_cmp q (([], Dir 0o755) ∷ l)) (pairs n)
+    ∙ sym (get-made (all_entries (numbers n) n) q))
 
 pub none_bad : (n : ℕ) → n ≤ 20000 → first_bad [] (numbered 0 (drill_held n)) ≡ None
 none_bad n few =

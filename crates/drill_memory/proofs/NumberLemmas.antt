@@ -40,7 +40,7 @@ numbered_pairs number (h ∷ hs) apart = λ i. (h.path, node_numbered (first i) 
 
     rest : map (entry_at (number_in (number + 1) hs)) hs ≡ map (entry_at (number_in number (h ∷ hs))) hs
     rest = map_same (entry_at (number_in (number + 1) hs)) (entry_at (number_in number (h ∷ hs))) hs (λ x c.
-          ap (λ (k : ℕ). (x.path, node_numbered k x.is_dir)) (sym (number_later number h hs x.path (tie-other x.path h.path (λ same. apart.0 x c (sym same))))))
+        ap (λ (k : ℕ). (x.path, node_numbered k x.is_dir)) (sym (number_later number h hs x.path (tie-other x.path h.path (λ same. apart.0 x c (sym same))))))
 
 -- ---- no number stands twice
 
@@ -55,13 +55,13 @@ place_of : (h : Held) (hs : List Held) (p : Names) → IsHeldAt (h ∷ hs) p →
 place_of h hs p (o, c, at_p) = elim (cases_Bool (tie p h.path)) [
   | inl same ↦ here same
   | inr other ↦ elim (contains_cases h o hs c) [
-      | inl first ↦
-          let is : h.path ≡ p = ap (λ (x : Held). x.path) first ∙ at_p in
-          let ties : tie p h.path ≡ true = subst (λ (q : Names). tie p q ≡ true) (sym is) (same_itself p) in
-          let both : true ≡ false = sym ties ∙ other in
-          absurd cc
-      | inr rest ↦ later other (o, rest, at_p)
-    ]
+    | inl first ↦
+        let is : h.path ≡ p = ap (λ (x : Held). x.path) first ∙ at_p in
+        let ties : tie p h.path ≡ true = subst (λ (q : Names). tie p q ≡ true) (sym is) (same_itself p) in
+        let both : true ≡ false = sym ties ∙ other in
+        absurd cc
+    | inr rest ↦ later other (o, rest, at_p)
+  ]
 ]
 
 number_least : (number : ℕ) (hs : List Held) (p : Names) → IsHeldAt hs p → number ≤ number_in number hs p

@@ -1,6 +1,8 @@
 use Rattle.std.proofs.Common.{map, refl, string_bytes, ◌∙◌}
+use Rattle.command_words.proofs.DrillLemmas.{few_groups}
 use Rattle.dired_run.specs.Runs.{no_memory, outside}
 use Rattle.dired_run.proofs.DecidedLemmas.{memory_decided, tree_decided, usage_decided}
+use Rattle.dired_run.proofs.DrillLemmas.{drill_decided, drill_decides}
 use Rattle.dired_run.proofs.InputLemmas.{buffers_decide, is_command, list_decides, recovery_decides, usage_decides}
 use Rattle.dired_run.proofs.program.decide.Goals as goal
 
@@ -38,6 +40,22 @@ returns-in-Ok-Recover-clause-decided g c =
     let now = outside (g.T.Tree.history c.recover_tree.new.tree) (g.T.Tree.fields c.recover_tree.new.tree) (g.T.Tree.faults c.recover_tree.new.tree) (g.T.Tree.changes c.recover_tree.new.tree) (g.T.Tree.before_failed c.recover_tree.new.tree) (g.H.Shelf.faults c.args.shelf.now) (g.H.Shelf.last_failed c.args.shelf.now) in
     tree_decided g.T.Tree.Tells g.H.Shelf.Tells _ before now c.recover_tree.result c.recover_tree.ensures.end c.recover_tree.ensures.calls c.recover_tree.ensures.kept refl
     (λ tells. c.recover_tree.ensures.decides tells (g.H.Shelf.faults c.args.shelf.now) (g.H.Shelf.faults c.args.shelf.now) (g.H.Shelf.last_failed c.args.shelf.now) (g.H.Shelf.last_failed c.args.shelf.now) refl)
+
+pub drill-requires-clause-some : goal.drill-requires-clause-some
+drill-requires-clause-some g c = (few_groups (map string_bytes c.args.words.now) c.in-Ok-Drill.groups (is_command (map string_bytes c.args.words.now) c.read_words.result _ _ c.read_words.ensures c.in-Ok-Drill.is c.in-Ok-Drill.field-0-is)).0
+
+pub drill-requires-clause-few : goal.drill-requires-clause-few
+drill-requires-clause-few g c = (few_groups (map string_bytes c.args.words.now) c.in-Ok-Drill.groups (is_command (map string_bytes c.args.words.now) c.read_words.result _ _ c.read_words.ensures c.in-Ok-Drill.is c.in-Ok-Drill.field-0-is)).1
+
+pub returns-in-Ok-Drill-clause-decides : goal.returns-in-Ok-Drill-clause-decides
+returns-in-Ok-Drill-clause-decides g c tells also =
+    let before = outside (g.T.Tree.history c.args.tree.now) (g.T.Tree.fields c.args.tree.now) (g.T.Tree.faults c.args.tree.now) (g.T.Tree.changes c.args.tree.now) (g.T.Tree.before_failed c.args.tree.now) (g.H.Shelf.faults c.args.shelf.now) (g.H.Shelf.last_failed c.args.shelf.now) in
+    drill_decides c.in-Ok-Drill.groups c.drill.result c.drill.ensures.line c.drill.ensures.end (map string_bytes c.args.words.now) (g.H.Shelf.files c.args.shelf.now) before (is_command (map string_bytes c.args.words.now) c.read_words.result _ _ c.read_words.ensures c.in-Ok-Drill.is c.in-Ok-Drill.field-0-is)
+
+pub returns-in-Ok-Drill-clause-decided : goal.returns-in-Ok-Drill-clause-decided
+returns-in-Ok-Drill-clause-decided g c =
+    let before = outside (g.T.Tree.history c.args.tree.now) (g.T.Tree.fields c.args.tree.now) (g.T.Tree.faults c.args.tree.now) (g.T.Tree.changes c.args.tree.now) (g.T.Tree.before_failed c.args.tree.now) (g.H.Shelf.faults c.args.shelf.now) (g.H.Shelf.last_failed c.args.shelf.now) in
+    drill_decided g.T.Tree.Tells g.H.Shelf.Tells before c.drill.result c.drill.ensures.end
 
 pub returns-in-Err-Usage-clause-decides : goal.returns-in-Err-Usage-clause-decides
 returns-in-Err-Usage-clause-decides g c tells also =
