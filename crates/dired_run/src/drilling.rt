@@ -1,5 +1,6 @@
 // A drill, in a tree of its own.
 ghost use Rattle.std.specs.Prelude.{◌≡◌, ◌≤◌, IfErr, IfOk};
+ghost use Rattle.std.specs.String.{string_bytes};
 ghost use Rattle.dired_run.specs.declared.status.Status.TheVariants.{Memory as memory};
 ghost use Rattle.dired_run.specs.Drills.{IsCounted, IsDrillText, drill_text};
 ghost use Rattle.dired_run.specs.Reports.{bytes_of_output};
@@ -50,9 +51,17 @@ fn counts(alloc: Global, groups: u32) -> Result<DrillCounts, Memory>
     }
 }
 
-// The line of these counts.
+// The line of these counts, as bytes.
 fn line(alloc: Global, groups: u32, counts: DrillCounts) -> Result<Bytes, Memory>
     ensures { IfOk result (λ text. text ≡ drill_text groups counts) }
+{
+    let text = line_text(alloc, groups, counts)?;
+    Ok(Bytes::from_vec(text.into_bytes()))
+}
+
+// The line of these counts.
+fn line_text(alloc: Global, groups: u32, counts: DrillCounts) -> Result<String, Memory>
+    ensures { IfOk result (λ text. string_bytes text ≡ drill_text groups counts) }
 {
     let DrillCounts {
         entries,
@@ -66,5 +75,5 @@ fn line(alloc: Global, groups: u32, counts: DrillCounts) -> Result<Bytes, Memory
     let text = format!(in alloc;
         "drill {groups}: entries {entries}, edits {edits}, cycles {cycles}, replaced {replaced}, temporaries {temporaries}, steps {steps}, left {left}\n"
     )?;
-    Ok(Bytes::from_vec(text.into_bytes()))
+    Ok(text)
 }
