@@ -24,12 +24,12 @@ use Rattle.dired_run.proofs.DecidedLemmas.{memory_decided}
 -- The counts of a commit are those of the edited tree.
 pub counted : (groups : ℕ) (begun now : History) (before : FileTree) (counts : DrillCounts) → IsDrillTree groups (current_tree begun) → HaveOwnNumbers (current_tree begun)
     → IsDrilled groups begun now before (Ok counts) → IsCounted groups counts
-counted groups begun now before counts is own drilled = record {
+counted groups begun now before counts is own done = record {
   tree = current_tree begun;
   next = next_number begun;
   is_drill = is;
   own_numbers = own;
-  counted = drilled.1 ∙ ap (counts_of groups (current_tree begun)) drilled.0.1.ends.stands.0;
+  counted = done.1 ∙ ap (counts_of groups (current_tree begun)) done.0.1.ends.stands.0;
 }
 
 -- what ends with the line of a drill, or for want of memory
