@@ -37,7 +37,8 @@ fn head_of(alloc: Global, meta: &Meta) -> Result<String, Memory>
 // Prints what stands behind the path: a link's target, a file's bytes.
 fn push_tail(text: &mut String, meta: &Meta, bytes: &[u8]) -> Result<(), Memory>
     ensures { OnOk result (
-        string_bytes text.new ≡ string_bytes text.old ++ row_tail meta.now.kind meta.now bytes.now) }
+        string_bytes text.new ≡
+        string_bytes text.old ++ row_tail meta.now.kind meta.now bytes.now) }
 {
     match meta.kind {
         Kind::Dir => {}

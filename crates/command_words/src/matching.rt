@@ -13,7 +13,8 @@ use clap::{ArgMatches, Command};
 /// `Usage` exactly where the command's definition refuses the words.
 pub fn matched<'a>(command: Command<'a>, words: &'a [String]) -> Result<ArgMatches<'a>, WordsFault>
     requires simple { is_simple_and_free (app_of command) ≡ true }
-    ensures rows { IfOk result (λ m. (fault_of (app_of command.entry) (map string_bytes words.now) ≡ [])
+    ensures rows { IfOk result (λ m. (fault_of (app_of command.entry) (map string_bytes words.now)
+        ≡ [])
         × (rows_of (found_of m) ≡ matches_of (app_of command.entry) (map string_bytes words.now))) }
     ensures refused { IfErr result
         (λ e. (e ≡ memory) ⊎ ((e ≡ Usage) ×

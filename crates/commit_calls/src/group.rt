@@ -95,7 +95,8 @@ pub fn do_groups<T: Tree>(
     requires cuts { ends.now ≡ ends_of 0 (groups steps.now) }
     requires markers { markers.now ≡ at_marker_paths (0 ∷ ends.now) }
     requires can { T.Tells → CanAll (calls_from 0 (groups steps.now)) (T.history tree.old) }
-    ensures done { T.Tells → IfOk result (λ _. (T.history tree.new ≡ then_all (T.history tree.old) (calls_from 0 (groups steps.now)))
+    ensures done { T.Tells → IfOk result (λ _. (T.history tree.new ≡ then_all (T.history tree.old)
+        (calls_from 0 (groups steps.now)))
         × (T.before_failed tree.new ≡ T.before_failed tree.old)) }
     ensures stopped { T.Tells → IfErr result
         (λ s. StoppedIn (groups steps.now) s (T.history tree.old) (T.history tree.new)

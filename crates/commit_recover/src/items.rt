@@ -33,7 +33,8 @@ fn push_those(items: &mut Vec<Item>, left: &Leftovers, part: Part) -> Result<(),
     requires named { length left.now.found.items ≡ length left.now.names.items }
     requires paths { left.now.paths.items ≡ map staged left.now.names.items }
     ensures { IfOk result (λ _. pairs items.new.items
-        ≡ pairs items.old.items ++ placed (items_by (is_of part) left.now.names.items left.now.found.items)) }
+        ≡ pairs items.old.items ++ placed (items_by (is_of part) left.now.names.items
+        left.now.found.items)) }
 {
     for k in 0..left.found.len() {
         let one = left.found[k];

@@ -24,7 +24,8 @@ use tree_core::Tree;
 pub fn counts(alloc: Global, groups: u32, checked: &Checked) -> Result<DrillCounts, Memory>
     requires few { groups ≤ 20000 }
     requires checked { IsCheckedDrill groups checked.now }
-    ensures { IfOk result (λ counts. (t : FileTree) → IsDrillTree groups t → StandsFor checked.now t →
+    ensures { IfOk result (λ counts.
+        (t : FileTree) → IsDrillTree groups t → StandsFor checked.now t →
         counts ≡ counts_with groups t 0) }
 {
     changes_can_be_made_where_it_stands(checked);
@@ -88,7 +89,8 @@ pub fn entries_left<T: Tree>(alloc: Global, tree: &mut T) -> Result<u32, DrillEn
     requires short { HasShortPaths (current_tree (T.history tree.old)) }
     ensures left { IfOk result (λ left. left ≡ entry_count (current_tree (T.history tree.old))) }
     ensures history { T.history tree.new ≡ T.history tree.old }
-    ensures faults { T.faults tree.new ≡ faults_with (failed_in failed_look result) (T.faults tree.old) }
+    ensures faults { T.faults tree.new ≡ faults_with (failed_in failed_look result)
+        (T.faults tree.old) }
     ensures end { IfErr result IsOfLook }
 {
     let Ok(everything) = read_find(alloc, "") else {

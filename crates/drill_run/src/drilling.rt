@@ -50,7 +50,8 @@ fn checked<T: Tree>(alloc: Global, tree: &mut T, groups: u32) -> Result<Checked,
     ensures changes { IfOk result (λ c. changes_in c ≡ drill_edits_of groups) }
     ensures stands { IfOk result (λ c. StandsFor c (current_tree (T.history tree.old))) }
     ensures history { T.history tree.new ≡ T.history tree.old }
-    ensures faults { T.faults tree.new ≡ faults_with (failed_in failed_look result) (T.faults tree.old) }
+    ensures faults { T.faults tree.new ≡ faults_with (failed_in failed_look result)
+        (T.faults tree.old) }
     ensures end { IfErr result IsOfLook }
 {
     let changes = drill_edits(alloc, groups)?;

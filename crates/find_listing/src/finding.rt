@@ -33,8 +33,9 @@ pub fn find<T: Tree>(
     ensures lines { T.Tells → IfOk result (λ lines. lines.items
         ≡ lines_found (current_tree (T.history tree.old)) (T.fields tree.old) now predicate.now) }
     ensures lawful { IfOk result (λ lines. AreFound lines.items) }
-    ensures looked { T.Tells → OnlyLooked (failed_in failed_call result) (T.history tree.old) (T.history tree.new)
-        (T.fields tree.old) (T.fields tree.new) (T.before_failed tree.old) (T.before_failed tree.new) }
+    ensures looked { T.Tells → OnlyLooked (failed_in failed_call result)
+        (T.history tree.old) (T.history tree.new) (T.fields tree.old) (T.fields tree.new)
+        (T.before_failed tree.old) (T.before_failed tree.new) }
     ensures faults { T.faults tree.new ≡
         faults_with (failed_in failed_call result) (T.faults tree.old) }
     ensures unchanged { T.changes tree.new ≡ T.changes tree.old }
@@ -70,8 +71,9 @@ fn visit<T: Tree>(
         ≡ children path (names_in (current_tree (T.history tree.old)) path) ++ pending walk.old) }
     ensures added { OnOk result (IsAdded path lines.old.items lines.new.items) }
     ensures entered { OnOk result (IsEntered path (pending walk.old) (pending walk.new)) }
-    ensures looked { T.Tells → OnlyLooked (failed_in failed_call result) (T.history tree.old) (T.history tree.new)
-        (T.fields tree.old) (T.fields tree.new) (T.before_failed tree.old) (T.before_failed tree.new) }
+    ensures looked { T.Tells → OnlyLooked (failed_in failed_call result)
+        (T.history tree.old) (T.history tree.new) (T.fields tree.old) (T.fields tree.new)
+        (T.before_failed tree.old) (T.before_failed tree.new) }
     ensures faults { T.faults tree.new ≡
         faults_with (failed_in failed_call result) (T.faults tree.old) }
     ensures unchanged { T.changes tree.new ≡ T.changes tree.old }
@@ -116,8 +118,9 @@ fn enter<T: Tree>(
     ensures names { T.Tells → OnOk result (pending walk.new
         ≡ children path (names_in (current_tree (T.history tree.old)) path) ++ pending walk.old) }
     ensures entered { OnOk result (IsEntered path (pending walk.old) (pending walk.new)) }
-    ensures looked { T.Tells → OnlyLooked (failed_in failed_call result) (T.history tree.old) (T.history tree.new)
-        (T.fields tree.old) (T.fields tree.new) (T.before_failed tree.old) (T.before_failed tree.new) }
+    ensures looked { T.Tells → OnlyLooked (failed_in failed_call result)
+        (T.history tree.old) (T.history tree.new) (T.fields tree.old) (T.fields tree.new)
+        (T.before_failed tree.old) (T.before_failed tree.new) }
     ensures faults { T.faults tree.new ≡
         faults_with (failed_in failed_call result) (T.faults tree.old) }
     ensures unchanged { T.changes tree.new ≡ T.changes tree.old }

@@ -20,8 +20,9 @@ pub(crate) fn meta_at<T: Tree>(alloc: Global, tree: &mut T, path: &Path) -> Resu
     requires stands { T.Tells → Stands (current_tree (T.history tree.old)) path.now }
     ensures meta { T.Tells → IfOk result (λ meta. meta ≡ T.fields tree.old path.now) }
     ensures lawful { IfOk result (λ meta. IsMeta meta) }
-    ensures looked { T.Tells → OnlyLooked (failed_in failed_call result) (T.history tree.old) (T.history tree.new)
-        (T.fields tree.old) (T.fields tree.new) (T.before_failed tree.old) (T.before_failed tree.new) }
+    ensures looked { T.Tells → OnlyLooked (failed_in failed_call result)
+        (T.history tree.old) (T.history tree.new) (T.fields tree.old) (T.fields tree.new)
+        (T.before_failed tree.old) (T.before_failed tree.new) }
     ensures faults { T.faults tree.new ≡
         faults_with (failed_in failed_call result) (T.faults tree.old) }
     ensures unchanged { T.changes tree.new ≡ T.changes tree.old }
@@ -44,8 +45,9 @@ pub(crate) fn names_in_dir<T: Tree>(
         names_in (current_tree (T.history tree.old)) dir.now) }
     ensures rise { IfOk result (λ names. RiseStrictly names.items) }
     ensures few { IfOk result (λ names. length names.items < 2 ^ 64) }
-    ensures looked { T.Tells → OnlyLooked (failed_in failed_call result) (T.history tree.old) (T.history tree.new)
-        (T.fields tree.old) (T.fields tree.new) (T.before_failed tree.old) (T.before_failed tree.new) }
+    ensures looked { T.Tells → OnlyLooked (failed_in failed_call result)
+        (T.history tree.old) (T.history tree.new) (T.fields tree.old) (T.fields tree.new)
+        (T.before_failed tree.old) (T.before_failed tree.new) }
     ensures faults { T.faults tree.new ≡
         faults_with (failed_in failed_call result) (T.faults tree.old) }
     ensures unchanged { T.changes tree.new ≡ T.changes tree.old }

@@ -89,7 +89,8 @@ impl MemTree {
         ensures good { IfOk result (λ m. first_bad [] entries.now ≡ None) }
         ensures bad { IfErr result (λ fault. Refuses entries.now fault) }
         ensures told { IfOk result (λ m. told m ≡
-            untouched (Began (built root_tree entries.now) (next_of entries.now)) (times_built entries.now)) }
+            untouched (Began (built root_tree entries.now) (next_of entries.now))
+            (times_built entries.now)) }
     {
         let (store, first_number) = store_of(alloc, entries)?;
         Ok(MemTree::began(alloc, store, first_number)?)

@@ -33,8 +33,10 @@ pub fn redo<T: Tree>(
     requires steps { AllByRecursion IsStep steps.now }
     requires parents { AreParents steps.now parents.now }
     requires few { from + length steps.now < 2 ^ 64 }
-    ensures ran { T.Tells → RanOrLooked (do_calls (to_redo steps.now (current_tree (T.history tree.old))))
-        (T.history tree.old) (T.history tree.new) (T.before_failed tree.old) (T.before_failed tree.new) result }
+    ensures ran { T.Tells → RanOrLooked (do_calls (to_redo steps.now
+        (current_tree (T.history tree.old))))
+        (T.history tree.old) (T.history tree.new) (T.before_failed tree.old)
+        (T.before_failed tree.new) result }
     ensures strange { T.Tells → IfOk result (λ strange. strange ≡
         strange_redo from steps.now (current_tree (T.history tree.old))) }
     ensures faults { NamesFault (T.faults tree.old) (T.faults tree.new) result }
@@ -54,7 +56,8 @@ pub fn redo<T: Tree>(
 fn do_step<T: Tree>(tree: &mut T, step: &Step) -> Result<(), CallName>
     requires can { T.Tells → CanDo (call_of step.now) (current_tree (T.history tree.old)) }
     ensures ran { T.Tells → RanOne (call_of step.now)
-        (T.history tree.old) (T.history tree.new) (T.before_failed tree.old) (T.before_failed tree.new) result }
+        (T.history tree.old) (T.history tree.new) (T.before_failed tree.old)
+        (T.before_failed tree.new) result }
     ensures faults { NamesFault (T.faults tree.old) (T.faults tree.new) result }
 {
     match step {

@@ -24,8 +24,10 @@ use tree_core::{CallName, Tree};
 pub fn undo_done<T: Tree>(tree: &mut T, steps: &[Step], parents: &[Parents]) -> Result<(), CallName>
     requires steps { AllByRecursion IsStep steps.now }
     requires parents { AreParents steps.now parents.now }
-    ensures ran { T.Tells → RanOrLooked (undo_calls (to_undo steps.now (current_tree (T.history tree.old))))
-        (T.history tree.old) (T.history tree.new) (T.before_failed tree.old) (T.before_failed tree.new) result }
+    ensures ran { T.Tells → RanOrLooked (undo_calls
+        (to_undo steps.now (current_tree (T.history tree.old))))
+        (T.history tree.old) (T.history tree.new) (T.before_failed tree.old)
+        (T.before_failed tree.new) result }
     ensures faults { NamesFault (T.faults tree.old) (T.faults tree.new) result }
 {
     for k in (0..steps.len()).rev() {
@@ -78,8 +80,10 @@ pub fn undo_strictly<T: Tree>(
     requires steps { AllByRecursion IsStep steps.now }
     requires parents { AreParents steps.now parents.now }
     requires few { from + length steps.now < 2 ^ 64 }
-    ensures ran { T.Tells → RanOrLooked (undo_calls (to_undo_strictly (reverse steps.now) (current_tree (T.history tree.old))))
-        (T.history tree.old) (T.history tree.new) (T.before_failed tree.old) (T.before_failed tree.new) result }
+    ensures ran { T.Tells → RanOrLooked (undo_calls
+        (to_undo_strictly (reverse steps.now) (current_tree (T.history tree.old))))
+        (T.history tree.old) (T.history tree.new) (T.before_failed tree.old)
+        (T.before_failed tree.new) result }
     ensures strange { T.Tells → IfOk result (λ strange. strange ≡
         strange_back from (reverse steps.now) (current_tree (T.history tree.old))) }
     ensures faults { NamesFault (T.faults tree.old) (T.faults tree.new) result }
@@ -99,7 +103,8 @@ pub fn undo_strictly<T: Tree>(
 fn undo<T: Tree>(tree: &mut T, step: &Step) -> Result<(), CallName>
     requires can { T.Tells → CanDo (undo_of step.now) (current_tree (T.history tree.old)) }
     ensures ran { T.Tells → RanOne (undo_of step.now)
-        (T.history tree.old) (T.history tree.new) (T.before_failed tree.old) (T.before_failed tree.new) result }
+        (T.history tree.old) (T.history tree.new) (T.before_failed tree.old)
+        (T.before_failed tree.new) result }
     ensures faults { NamesFault (T.faults tree.old) (T.faults tree.new) result }
 {
     match step {

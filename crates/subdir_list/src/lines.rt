@@ -29,8 +29,9 @@ pub fn list_dir<T: Tree>(
         IsListed switches.now (current_tree (T.history tree.old))
         (T.fields tree.old) dir.now lines.items) }
     ensures refused { IfErr result (λ end. Refuses end None) }
-    ensures looked { T.Tells → OnlyLooked (failed_in failed_call result) (T.history tree.old) (T.history tree.new)
-        (T.fields tree.old) (T.fields tree.new) (T.before_failed tree.old) (T.before_failed tree.new) }
+    ensures looked { T.Tells → OnlyLooked (failed_in failed_call result)
+        (T.history tree.old) (T.history tree.new) (T.fields tree.old) (T.fields tree.new)
+        (T.before_failed tree.old) (T.before_failed tree.new) }
     ensures faults { T.faults tree.new ≡
         faults_with (failed_in failed_call result) (T.faults tree.old) }
     ensures unchanged { T.changes tree.new ≡ T.changes tree.old }
@@ -58,8 +59,9 @@ fn lines_of<T: Tree>(
     ensures lines { T.Tells → IfOk result (λ lines. lines.items ≡
         filter_map (line_at (T.fields tree.old) switches.now dir.now) names.now) }
     ensures refused { IfErr result (λ end. Refuses end None) }
-    ensures looked { T.Tells → OnlyLooked (failed_in failed_call result) (T.history tree.old) (T.history tree.new)
-        (T.fields tree.old) (T.fields tree.new) (T.before_failed tree.old) (T.before_failed tree.new) }
+    ensures looked { T.Tells → OnlyLooked (failed_in failed_call result)
+        (T.history tree.old) (T.history tree.new) (T.fields tree.old) (T.fields tree.new)
+        (T.before_failed tree.old) (T.before_failed tree.new) }
     ensures faults { T.faults tree.new ≡
         faults_with (failed_in failed_call result) (T.faults tree.old) }
     ensures unchanged { T.changes tree.new ≡ T.changes tree.old }
@@ -86,8 +88,9 @@ fn line_in<T: Tree>(
     ensures line { T.Tells → IfOk result (λ line. line ≡
         line_at (T.fields tree.old) switches.now dir.now name.now) }
     ensures refused { IfErr result (λ end. Refuses end None) }
-    ensures looked { T.Tells → OnlyLooked (failed_in failed_call result) (T.history tree.old) (T.history tree.new)
-        (T.fields tree.old) (T.fields tree.new) (T.before_failed tree.old) (T.before_failed tree.new) }
+    ensures looked { T.Tells → OnlyLooked (failed_in failed_call result)
+        (T.history tree.old) (T.history tree.new) (T.fields tree.old) (T.fields tree.new)
+        (T.before_failed tree.old) (T.before_failed tree.new) }
     ensures faults { T.faults tree.new ≡
         faults_with (failed_in failed_call result) (T.faults tree.old) }
     ensures unchanged { T.changes tree.new ≡ T.changes tree.old }

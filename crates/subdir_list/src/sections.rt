@@ -34,8 +34,9 @@ pub fn list_dirs<T: Tree>(
         None) }
     ensures refused { T.Tells → IfErr result
         (λ end. Refuses end (first_other (current_tree (T.history tree.old)) dirs.now)) }
-    ensures looked { T.Tells → OnlyLooked (failed_in failed_call result) (T.history tree.old) (T.history tree.new)
-        (T.fields tree.old) (T.fields tree.new) (T.before_failed tree.old) (T.before_failed tree.new) }
+    ensures looked { T.Tells → OnlyLooked (failed_in failed_call result)
+        (T.history tree.old) (T.history tree.new) (T.fields tree.old) (T.fields tree.new)
+        (T.before_failed tree.old) (T.before_failed tree.new) }
     ensures faults { T.faults tree.new ≡
         faults_with (failed_in failed_call result) (T.faults tree.old) }
     ensures unchanged { T.changes tree.new ≡ T.changes tree.old }
@@ -60,8 +61,9 @@ fn paths_of<T: Tree>(alloc: Global, tree: &mut T, dirs: &[Path]) -> Result<Vec<P
         None) }
     ensures refused { T.Tells → IfErr result
         (λ end. Refuses end (first_other (current_tree (T.history tree.old)) dirs.now)) }
-    ensures looked { T.Tells → OnlyLooked (failed_in failed_call result) (T.history tree.old) (T.history tree.new)
-        (T.fields tree.old) (T.fields tree.new) (T.before_failed tree.old) (T.before_failed tree.new) }
+    ensures looked { T.Tells → OnlyLooked (failed_in failed_call result)
+        (T.history tree.old) (T.history tree.new) (T.fields tree.old) (T.fields tree.new)
+        (T.before_failed tree.old) (T.before_failed tree.new) }
     ensures faults { T.faults tree.new ≡
         faults_with (failed_in failed_call result) (T.faults tree.old) }
     ensures unchanged { T.changes tree.new ≡ T.changes tree.old }
@@ -90,8 +92,9 @@ fn is_dir<T: Tree>(tree: &mut T, path: &Path) -> Result<bool, ListEnd>
     ensures dir { T.Tells → IfOk result (λ b. b ≡
         is_dir_node (get (current_tree (T.history tree.old)) path.now)) }
     ensures refused { IfErr result (λ end. end ≡ ListEnd.TreeFault CallName.Kind) }
-    ensures looked { T.Tells → OnlyLooked (failed_in failed_call result) (T.history tree.old) (T.history tree.new)
-        (T.fields tree.old) (T.fields tree.new) (T.before_failed tree.old) (T.before_failed tree.new) }
+    ensures looked { T.Tells → OnlyLooked (failed_in failed_call result)
+        (T.history tree.old) (T.history tree.new) (T.fields tree.old) (T.fields tree.new)
+        (T.before_failed tree.old) (T.before_failed tree.new) }
     ensures faults { T.faults tree.new ≡
         faults_with (failed_in failed_call result) (T.faults tree.old) }
     ensures unchanged { T.changes tree.new ≡ T.changes tree.old }
@@ -115,8 +118,9 @@ fn section_of<T: Tree>(
         IsSection switches.now (current_tree (T.history tree.old))
         (T.fields tree.old) dir.now text) }
     ensures refused { IfErr result (λ end. Refuses end None) }
-    ensures looked { T.Tells → OnlyLooked (failed_in failed_call result) (T.history tree.old) (T.history tree.new)
-        (T.fields tree.old) (T.fields tree.new) (T.before_failed tree.old) (T.before_failed tree.new) }
+    ensures looked { T.Tells → OnlyLooked (failed_in failed_call result)
+        (T.history tree.old) (T.history tree.new) (T.fields tree.old) (T.fields tree.new)
+        (T.before_failed tree.old) (T.before_failed tree.new) }
     ensures faults { T.faults tree.new ≡
         faults_with (failed_in failed_call result) (T.faults tree.old) }
     ensures unchanged { T.changes tree.new ≡ T.changes tree.old }
