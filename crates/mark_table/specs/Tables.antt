@@ -29,6 +29,10 @@ with_marks t m = record { marks = m; kept = t.kept }
 abbrev pub saved : MarkTable → MarkTable
 saved t = record { marks = t.marks; kept = t.marks ∷ t.kept }
 
+-- the same marks, with no copy kept
+abbrev pub forgotten : MarkTable → MarkTable
+forgotten t = record { marks = t.marks; kept = [] }
+
 -- the marks of the last copy, which is kept no longer
 abbrev pub from_kept : List PathMarks → Option MarkTable
 from_kept [] = None

@@ -4,7 +4,7 @@ ghost use Rattle.std.specs.FinMap as map;
 ghost use Rattle.dired_text.specs.Answers.{IsOrMemory};
 ghost use Rattle.mark_table.specs.PathMarks.{IsMark, cleared, is_mark as is_mark_byte, replaced, toggled};
 ghost use Rattle.mark_table.specs.Moves.{moved_marks};
-ghost use Rattle.mark_table.specs.Tables.{can_undo, no_marks, ok_if, saved, undone, with_marks};
+ghost use Rattle.mark_table.specs.Tables.{can_undo, forgotten, no_marks, ok_if, saved, undone, with_marks};
 
 use crate::mark_map::MarkMap;
 use crate::moving::moved;
@@ -220,5 +220,12 @@ impl Marks {
                 Ok(())
             }
         }
+    }
+
+    /// Drops the kept copies. The marks stay, and no memory is taken.
+    pub fn forget(&mut self)
+        ensures { self.new ≡ forgotten self.old }
+    {
+        self.kept.clear();
     }
 }
