@@ -1,5 +1,5 @@
 -- What is kept of a change leads back.
-use Rattle.std.proofs.Common.{◌≡◌, ℕ, ◌+◌, ◌<◌, Bool, true, false, cond, not, ◌&&◌, ◌||◌, ◌==◌, List, [], ◌∷◌, ◌++◌, map, filter, length, drop, get_or, reverse, refl, sym, ◌∙◌, ap, Option, Some, None}
+use Rattle.std.proofs.Common.{◌≡◌, ℕ, ◌+◌, ◌<◌, Bool, true, false, cond, not, ◌&&◌, ◌||◌, ◌==◌, List, [], ◌∷◌, ◌++◌, length, drop, get_or, reverse, refl, sym, ◌∙◌, ap, Option, Some, None}
 use Rattle.std.specs.FinMap as fin
 use Rattle.std.specs.Global.{Vec}
 use Rattle.std.specs.List.{list_any}
@@ -15,7 +15,7 @@ use Rattle.mark_table.specs.Tables.{MarkTable, with_marks}
 use Rattle.mark_table.proofs.MarkLemmas.{tie, same_marks, get-marked, get-with_each}
 use Rattle.session_marks.specs.declared.kept.Kept.{Kept}
 use Rattle.session_marks.specs.declared.kept.Kept.TheVariants.{Differences}
-use Rattle.session_marks.specs.Histories.{MarkHistory, gains, taken_back}
+use Rattle.session_marks.specs.Histories.{gains, taken_back}
 use Rattle.session_marks.specs.Keeping.{MarkPairs, back, differing, earlier_of, had, history_of, marks_back, paths_of}
 
 -- ---- pair after pair

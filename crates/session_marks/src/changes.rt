@@ -42,6 +42,7 @@ fn put(marks: &mut Marks, path: &Path, mark: Option<u8>) -> Result<(), Memory>
         }
         Some(mark) => match marks.set(path.copy()?, mark) {
             Ok(()) => Ok(()),
+            // Every mark here was asked for or found as one, so what is wanting is memory.
             Err(_) => Err(Memory),
         },
     }
