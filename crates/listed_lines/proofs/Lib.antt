@@ -1,0 +1,3 @@
+mod SortedLemmas
+mod LineLemmas
+pub mod ListedLemmas
