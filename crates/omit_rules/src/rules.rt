@@ -3,7 +3,7 @@ ghost use Rattle.std.specs.Prelude.{◌≡◌, [], ◌∷◌, ◌++◌, IfOk, If
 ghost use Rattle.dired_text.specs.Patterns.{CountsRefusals};
 ghost use Rattle.omit_rules.specs.Rules.{is_omitted, guess_for, matches_all as all_match, AreRulesOf, AreRulesFor, IsRuleOf, IsPatternFor, IsPatternForAny};
 ghost use Rattle.omit_rules.specs.Omitters.{rules_of};
-ghost use Rattle.omit_rules.specs.Values.{values_of};
+ghost use Rattle.omit_rules.specs.Values.{no_values, values_of};
 
 use crate::settings::Guess;
 use crate::{Omitter, Settings};
@@ -52,6 +52,18 @@ impl Rules {
             omit_extensions,
             guesses,
         })
+    }
+
+    /// The rules of no settings: no name is omitted, and no command is guessed. It takes no memory.
+    pub fn none(alloc: Global) -> Self
+        ensures { AreRulesOf no_values result }
+    {
+        Rules {
+            alloc,
+            omit_regexp: None,
+            omit_extensions: Vec::new(alloc),
+            guesses: Vec::new(alloc),
+        }
     }
 
     /// Whether the line of a file with this last name is omitted: it has no mark, and the name matches the regexp or ends
