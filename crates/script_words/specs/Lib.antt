@@ -5,3 +5,4 @@ pub mod Predicates
 pub mod Arguments
 pub mod Rows
 pub mod Commands
+pub mod Marks

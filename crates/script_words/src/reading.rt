@@ -1,6 +1,7 @@
 // The command at a line.
-ghost use Rattle.std.specs.Prelude.{◌≡◌, ◌≤◌, length};
+ghost use Rattle.std.specs.Prelude.{◌≡◌, ◌≤◌, IfOk, length};
 ghost use Rattle.script_words.specs.Commands.{IsCommandAt, IsWordRead};
+ghost use Rattle.script_words.specs.Marks.{HasMarks};
 
 use crate::rows::{arguments, read_row};
 use crate::word::{Word, word_of};
@@ -16,7 +17,8 @@ use std::alloc::Global;
 pub fn read_command(alloc: Global, script: &Script, at: u32) -> Result<(Asked, u32), CommandFault>
     requires first { 1 ≤ at }
     requires last { at ≤ length script.now }
-    ensures { IsCommandAt script.now at result }
+    ensures command { IsCommandAt script.now at result }
+    ensures marks { IfOk result (λ read. HasMarks read.0.command) }
 {
     match word_of(script.line(at)) {
         Some(word) => read_word(alloc, script, at, word),
