@@ -1,8 +1,8 @@
 // What is printed of a run.
 ghost use Rattle.std.specs.Prelude.{◌≡◌, ◌++◌, ℕ, IfOk, OnOk, flat_map};
 ghost use Rattle.std.specs.String.{string_bytes};
-ghost use Rattle.dired_run.specs.Statuses.{number_of};
-ghost use Rattle.dired_run.specs.declared.status.Status.TheVariants.{WriteFault};
+ghost use Rattle.run_status.specs.Statuses.{number_of};
+ghost use Rattle.run_status.specs.declared.status.Status.TheVariants.{WriteFault};
 ghost use Rattle.dired_cases.specs.Reports.{report_text as report_text_of, line_byte as line_byte_of, held_text};
 
 use case_tables::push_field_byte;

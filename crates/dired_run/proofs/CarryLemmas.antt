@@ -28,12 +28,13 @@ use Rattle.edit_words.specs.WellFormed.{CanBeMade, LinksHaveFiles}
 use Rattle.edit_words.proofs.WellFormedLemmas.{taken_alone}
 use Rattle.dired_run.specs.declared.output.Output.{Output}
 use Rattle.dired_run.specs.declared.requests.Request.{Request}
-use Rattle.dired_run.specs.declared.status.Status.{Status}
-use Rattle.dired_run.specs.declared.status.Status.TheVariants.{Memory, TreeFault}
-use Rattle.dired_run.specs.Faults.{status_of_commit, status_of_fault}
+use Rattle.run_status.specs.declared.status.Status.{Status}
+use Rattle.run_status.specs.declared.status.Status.TheVariants.{Memory, TreeFault}
+use Rattle.dired_run.specs.Faults.{status_of_commit}
+use Rattle.run_status.specs.Faults.{status_of_fault}
 use Rattle.dired_run.specs.Reports.{decided_of, output_of}
 use Rattle.dired_run.specs.Runs.{Outside, Decides, IsLookFor, no_memory, look_failed, refused, committed, last_text}
-use Rattle.dired_run.specs.Statuses.{IsKeptBehind, IsTreeRefusal, calls_behind, sort_of, text_of}
+use Rattle.run_status.specs.Statuses.{IsKeptBehind, IsTreeRefusal, calls_behind, sort_of, text_of}
 use Rattle.dired_run.specs.Verdicts.{Makes, on_tree, summary_text, unless}
 
 -- ---- the check

@@ -23,9 +23,9 @@ use Rattle.edit_words.specs.declared.row.Row.{Row}
 use Rattle.edit_words.specs.Rows.{rows}
 use Rattle.edit_words.specs.WellFormed.{max_changes}
 use Rattle.edit_words.proofs.WellFormedLemmas.{taken_alone}
-use Rattle.dired_run.specs.declared.status.Counted.TheVariants.{Edits as ManyEdits}
-use Rattle.dired_run.specs.declared.status.Status.{Status}
-use Rattle.dired_run.specs.declared.status.Status.TheVariants.{Done, Memory, TooLarge}
+use Rattle.run_status.specs.declared.status.Counted.TheVariants.{Edits as ManyEdits}
+use Rattle.run_status.specs.declared.status.Status.{Status}
+use Rattle.run_status.specs.declared.status.Status.TheVariants.{Done, Memory, TooLarge}
 use Rattle.dired_run.specs.Faults.{status_of_commit, status_of_recovery}
 use Rattle.dired_run.specs.Inputs.{Files, input_of, bytes_or_refusal, max_buffer_bytes}
 use Rattle.dired_run.specs.Requests.{of_inputs, of_buffer, of_edits, of_asks}

@@ -14,12 +14,12 @@ use Rattle.commit_recover.specs.declared.end.RecoverEnd.TheVariants as recovery
 use Rattle.commit_recover.specs.Answers.{Answers}
 use Rattle.dired_run.specs.declared.output.Output.{Output}
 use Rattle.dired_run.specs.declared.requests.Request.{Request}
-use Rattle.dired_run.specs.declared.status.Status.{Status}
-use Rattle.dired_run.specs.declared.status.Status.TheVariants.{Done, Usage, Memory}
+use Rattle.run_status.specs.declared.status.Status.{Status}
+use Rattle.run_status.specs.declared.status.Status.TheVariants.{Done, Usage, Memory}
 use Rattle.dired_run.specs.Faults.{status_of_commit, status_of_recovery}
 use Rattle.dired_run.specs.Reports.{decided_of, output_of}
 use Rattle.dired_run.specs.Runs.{Outside, Decides, IsDecided, IsSameTree, no_memory, read_failed, look_failed, refused, listed, committed, recovered, drilled}
-use Rattle.dired_run.specs.Statuses.{Sort, Success, Refusal, Encounter, Shortage, Reading, Calls, Writing, BySort, ByCause, IsDecisionOf, IsKeptBehind, IsRefusal, IsRefusalOf, IsTreeRefusal, IsTreeRefusalOf, LastReadBehind, ReadsBehind, calls_behind, has_fixed_text, has_fixed_text_of, sort_of, text_of}
+use Rattle.run_status.specs.Statuses.{Sort, Success, Refusal, Encounter, Shortage, Reading, Calls, Writing, BySort, ByCause, IsDecisionOf, IsKeptBehind, IsRefusal, IsRefusalOf, IsTreeRefusal, IsTreeRefusalOf, LastReadBehind, ReadsBehind, calls_behind, has_fixed_text, has_fixed_text_of, sort_of, text_of}
 use Rattle.dired_run.specs.Verdicts.{Verdict}
 
 -- ---- what was changed

@@ -12,13 +12,13 @@ use Rattle.drill_run.specs.declared.counts.DrillCounts.{DrillCounts}
 use Rattle.drill_run.specs.Counts.{counts_of}
 use Rattle.drill_run.specs.Drills.{IsDrilled}
 use Rattle.dired_run.specs.declared.output.Output.{Output}
-use Rattle.dired_run.specs.declared.status.Status.{Status}
-use Rattle.dired_run.specs.declared.status.Status.TheVariants.{Done, Memory}
+use Rattle.run_status.specs.declared.status.Status.{Status}
+use Rattle.run_status.specs.declared.status.Status.TheVariants.{Done, Memory}
 use Rattle.dired_run.specs.Drills.{IsCounted, IsDrillText}
 use Rattle.dired_run.specs.Inputs.{Files}
 use Rattle.dired_run.specs.Reports.{bytes_of_output, decided_of, output_of}
 use Rattle.dired_run.specs.Runs.{Outside, Decides, IsDecided, IsSameTree, no_memory, drilled, of_command, verdict}
-use Rattle.dired_run.specs.Statuses.{text_of}
+use Rattle.run_status.specs.Statuses.{text_of}
 use Rattle.dired_run.proofs.DecidedLemmas.{memory_decided}
 
 -- The counts of a commit are those of the edited tree.

@@ -12,12 +12,12 @@ use Rattle.command_words.specs.Commands.{command_of}
 use Rattle.listing_text.specs.declared.switches.Switches.{Switches}
 use Rattle.subdir_list.specs.Listings.{first_other}
 use Rattle.dired_run.specs.declared.requests.Request.{Request}
-use Rattle.dired_run.specs.declared.status.Status.{Status}
-use Rattle.dired_run.specs.declared.status.Status.TheVariants.{Done, Usage, Memory, ReadFault, TreeFault, WriteFault, Missing, BadBuffer, Faulty, Unconfirmed, Stale, Pending, RolledBack, Unfinished, Unclean, BadJournal, Foreign, TooLarge, Strange}
+use Rattle.run_status.specs.declared.status.Status.{Status}
+use Rattle.run_status.specs.declared.status.Status.TheVariants.{Done, Usage, Memory, ReadFault, TreeFault, WriteFault, Missing, BadBuffer, Faulty, Unconfirmed, Stale, Pending, RolledBack, Unfinished, Unclean, BadJournal, Foreign, TooLarge, Strange}
 use Rattle.dired_run.specs.Inputs.{Files}
 use Rattle.dired_run.specs.Requests.{request_of}
 use Rattle.dired_run.specs.Runs.{Outside, Decides, IsSameTree, no_memory, read_failed, refused, of_command, of_request, verdict}
-use Rattle.dired_run.specs.Statuses.{ByCause, IsRefusal, text_of}
+use Rattle.run_status.specs.Statuses.{ByCause, IsRefusal, text_of}
 use Rattle.dired_run.specs.Verdicts.{Recovers, on_dirs, on_tree}
 
 -- ---- the words

@@ -40,16 +40,17 @@ use Rattle.wdired_buffer.specs.declared.line.BufferLine.{BufferLine}
 use Rattle.wdired_buffer.specs.Buffer.{buffer_of}
 use Rattle.wdired_buffer.specs.Edits.{Asks, edits_of}
 use Rattle.dired_run.specs.declared.requests.Request.{Request}
-use Rattle.dired_run.specs.declared.status.Counted.TheVariants.{Edits as ManyEdits}
-use Rattle.dired_run.specs.declared.status.Status.{Status}
-use Rattle.dired_run.specs.declared.status.Status.TheVariants.{Done, Usage, Memory, ReadFault, TreeFault, WriteFault, Missing, BadBuffer, Faulty, Unconfirmed, Stale, Pending, RolledBack, Unfinished, Unclean, BadJournal, Foreign, TooLarge, Strange}
-use Rattle.dired_run.specs.Faults.{status_of_commit, status_of_fault}
+use Rattle.run_status.specs.declared.status.Counted.TheVariants.{Edits as ManyEdits}
+use Rattle.run_status.specs.declared.status.Status.{Status}
+use Rattle.run_status.specs.declared.status.Status.TheVariants.{Done, Usage, Memory, ReadFault, TreeFault, WriteFault, Missing, BadBuffer, Faulty, Unconfirmed, Stale, Pending, RolledBack, Unfinished, Unclean, BadJournal, Foreign, TooLarge, Strange}
+use Rattle.dired_run.specs.Faults.{status_of_commit}
+use Rattle.run_status.specs.Faults.{status_of_fault}
 use Rattle.dired_run.specs.Inputs.{Files, input_of}
 use Rattle.dired_run.specs.Kept.{IsConfirmedVictim, IsDoneOrHeld, KeepsUnconfirmed, requested_by, requested_in, rows_of, taken_of}
 use Rattle.dired_run.specs.Reports.{Said}
 use Rattle.dired_run.specs.Requests.{Asked, of_asks, of_buffer, of_edits, of_inputs, request_of}
 use Rattle.dired_run.specs.Runs.{Outside, Decides, no_memory, read_failed, look_failed, refused, listed, committed, recovered, drilled, of_command, of_request, verdict}
-use Rattle.dired_run.specs.Statuses.{IsDecisionOf, IsTreeRefusal, number_of, sort_of}
+use Rattle.run_status.specs.Statuses.{IsDecisionOf, IsTreeRefusal, number_of, sort_of}
 use Rattle.dired_run.specs.Verdicts.{Refuses, Makes, on_tree, unless}
 use Rattle.dired_run.proofs.CarryLemmas.{check_refuses}
 

@@ -6,10 +6,10 @@ use Rattle.dired_text.specs.declared.text.Failed.{Failed}
 use Rattle.dired_text.specs.Outside.{TakesPartOf, TakesAs}
 use Rattle.tree_core.specs.declared.node.CallName.{CallName}
 use Rattle.dired_run.specs.declared.output.Output.{Output}
-use Rattle.dired_run.specs.declared.status.Status.{Status}
-use Rattle.dired_run.specs.declared.status.Status.TheVariants.{Memory}
+use Rattle.run_status.specs.declared.status.Status.{Status}
+use Rattle.run_status.specs.declared.status.Status.TheVariants.{Memory}
 use Rattle.dired_run.specs.Reports.{Said, Reported, decided_of}
-use Rattle.dired_run.specs.Statuses.{call_failed_text, call_text, number_text, text_of, has_fixed_text}
+use Rattle.run_status.specs.Statuses.{call_failed_text, call_text, number_text, text_of, has_fixed_text}
 
 -- some of the first piece is some of both
 pub part_of_first : (p q old new : List ℕ) → TakesPartOf p old new → TakesPartOf (p ++ q) old new

@@ -7,12 +7,12 @@ use Rattle.commit_recover.specs.declared.end.RecoverEnd.TheVariants as recovery
 use Rattle.commit_recover.specs.Answers.{Answers}
 use Rattle.commit_recover.specs.Faults.{NamesFaults}
 use Rattle.dired_run.specs.declared.output.Output.{Output}
-use Rattle.dired_run.specs.declared.status.Status.{Status}
-use Rattle.dired_run.specs.declared.status.Status.TheVariants.{Memory, TreeFault}
+use Rattle.run_status.specs.declared.status.Status.{Status}
+use Rattle.run_status.specs.declared.status.Status.TheVariants.{Memory, TreeFault}
 use Rattle.dired_run.specs.Faults.{status_of_commit, status_of_recovery}
 use Rattle.dired_run.specs.Reports.{Said, Reported, decided_of, output_of}
 use Rattle.dired_run.specs.Runs.{Outside, Decides, IsDecided, no_memory, read_failed, look_failed, refused, listed, committed, recovered, drilled}
-use Rattle.dired_run.specs.Statuses.{has_fixed_text, text_of}
+use Rattle.run_status.specs.Statuses.{has_fixed_text, text_of}
 use Rattle.dired_run.specs.Verdicts.{Verdict}
 use Rattle.dired_run.proofs.DecidedLemmas.{short_decided}
 

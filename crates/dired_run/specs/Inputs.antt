@@ -1,8 +1,8 @@
 -- What is read.
 use Rattle.std.specs.Prelude.{ℕ, ◌+◌, nat_lt, List, length, Option, Some, None, if◌then◌else◌, Result, Ok, Err}
-use Rattle.dired_run.specs.declared.status.Counted.TheVariants.{BufferBytes}
-use Rattle.dired_run.specs.declared.status.Status.{Status}
-use Rattle.dired_run.specs.declared.status.Status.TheVariants.{Missing, TooLarge}
+use Rattle.run_status.specs.declared.status.Counted.TheVariants.{BufferBytes}
+use Rattle.run_status.specs.declared.status.Status.{Status}
+use Rattle.run_status.specs.declared.status.Status.TheVariants.{Missing, TooLarge}
 
 -- the bytes of each name that is there
 abbrev pub Files : Type 0

@@ -17,8 +17,8 @@ use Rattle.edit_words.specs.Refusals.{is_confirmed}
 use Rattle.edit_words.specs.Rows.{route_of, rows}
 use Rattle.edit_words.specs.WellFormed.{IsVictimOf}
 use Rattle.dired_run.specs.declared.requests.Request.{Request}
-use Rattle.dired_run.specs.declared.status.Status.{Status}
-use Rattle.dired_run.specs.declared.status.Status.TheVariants.{Done, WriteFault}
+use Rattle.run_status.specs.declared.status.Status.{Status}
+use Rattle.run_status.specs.declared.status.Status.TheVariants.{Done, WriteFault}
 use Rattle.dired_run.specs.Inputs.{Files}
 use Rattle.dired_run.specs.Requests.{Asked, request_of}
 

@@ -5,6 +5,5 @@ pub mod Kept
 pub mod Reports
 pub mod Requests
 pub mod Runs
-pub mod Statuses
 pub mod Verdicts
 pub mod WellFormed

@@ -4,9 +4,9 @@ use Rattle.dired_text.specs.Counts.{raised}
 use Rattle.dired_text.specs.Outside.{TakesPartOf}
 use Rattle.dired_run.specs.declared.output.Output.{Output}
 use Rattle.dired_run.specs.declared.output.Output.TheVariants.{Lines, Nothing, Edited, Old, Cleared}
-use Rattle.dired_run.specs.declared.status.Status.{Status}
-use Rattle.dired_run.specs.declared.status.Status.TheVariants.{Done, Memory, WriteFault}
-use Rattle.dired_run.specs.Statuses.{number_of, text_of, has_fixed_text}
+use Rattle.run_status.specs.declared.status.Status.{Status}
+use Rattle.run_status.specs.declared.status.Status.TheVariants.{Done, Memory, WriteFault}
+use Rattle.run_status.specs.Statuses.{number_of, text_of, has_fixed_text}
 
 -- The text went out whole and the status was answered; or a write failed, some first bytes went out, and the answer is a
 -- write fault that holds the number of the status. `Tells` says whether the output tells what it took.

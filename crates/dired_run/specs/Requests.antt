@@ -10,10 +10,10 @@ use Rattle.wdired_buffer.specs.Buffer.{buffer_of}
 use Rattle.wdired_buffer.specs.Edits.{Asks, edits_of}
 use Rattle.edit_words.specs.WellFormed.{max_changes}
 use Rattle.dired_run.specs.declared.requests.Request.{Request}
-use Rattle.dired_run.specs.declared.status.Counted.TheVariants.{BufferLines, Edits}
-use Rattle.dired_run.specs.declared.status.Status.{Status}
-use Rattle.dired_run.specs.declared.status.Status.TheVariants.{Memory, BadBuffer, Faulty, TooLarge}
-use Rattle.dired_run.specs.Faults.{cause_of_line}
+use Rattle.run_status.specs.declared.status.Counted.TheVariants.{BufferLines, Edits}
+use Rattle.run_status.specs.declared.status.Status.{Status}
+use Rattle.run_status.specs.declared.status.Status.TheVariants.{Memory, BadBuffer, Faulty, TooLarge}
+use Rattle.run_status.specs.Faults.{cause_of_line}
 use Rattle.dired_run.specs.Inputs.{Files, input_of}
 
 -- BEFORE is the input of this name

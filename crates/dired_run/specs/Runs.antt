@@ -31,13 +31,13 @@ use Rattle.command_words.specs.Commands.{command_of}
 use Rattle.edit_words.specs.Found.{IsLook}
 use Rattle.subdir_list.specs.Listings.{IsListing, first_other}
 use Rattle.dired_run.specs.declared.requests.Request.{Request}
-use Rattle.dired_run.specs.declared.status.Status.{Status}
-use Rattle.dired_run.specs.declared.status.Status.TheVariants.{Done, Usage, Memory, ReadFault, TreeFault}
+use Rattle.run_status.specs.declared.status.Status.{Status}
+use Rattle.run_status.specs.declared.status.Status.TheVariants.{Done, Usage, Memory, ReadFault, TreeFault}
 use Rattle.dired_run.specs.Drills.{IsDrillText}
 use Rattle.dired_run.specs.Faults.{status_of_commit, status_of_recovery}
 use Rattle.dired_run.specs.Inputs.{Files}
 use Rattle.dired_run.specs.Requests.{request_of}
-use Rattle.dired_run.specs.Statuses.{IsDecisionOf, IsKeptBehind, LastReadBehind, ReadsBehind, calls_behind, sort_of, text_of}
+use Rattle.run_status.specs.Statuses.{IsDecisionOf, IsKeptBehind, LastReadBehind, ReadsBehind, calls_behind, sort_of, text_of}
 use Rattle.dired_run.specs.Verdicts.{Verdict, Refuses, Makes, Lists, Recovers, Drills, on_tree, on_dirs, recovered_text, summary_of}
 
 abbrev pub of_request : Result Request Status → FileTree → Verdict

@@ -14,10 +14,10 @@ use Rattle.edit_words.specs.Refusals.{refusal}
 use Rattle.edit_words.specs.Rows.{rows}
 use Rattle.edit_words.specs.Sight.{sight_of}
 use Rattle.dired_run.specs.declared.requests.Request.{Request}
-use Rattle.dired_run.specs.declared.status.Status.{Status}
-use Rattle.dired_run.specs.declared.status.Status.TheVariants.{Missing}
-use Rattle.dired_run.specs.Faults.{status_of_fault}
-use Rattle.dired_run.specs.Statuses.{path_text}
+use Rattle.run_status.specs.declared.status.Status.{Status}
+use Rattle.run_status.specs.declared.status.Status.TheVariants.{Missing}
+use Rattle.run_status.specs.Faults.{status_of_fault}
+use Rattle.run_status.specs.Statuses.{path_text}
 
 -- a refusal; or these edits are made, and these names were emptied; or the root and these directories are listed; or what an
 -- interrupted commit left is recovered (`true`: back); or the edits of a drill are committed, of so many directories

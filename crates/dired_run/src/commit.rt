@@ -7,15 +7,15 @@ ghost use Rattle.edit_words.specs.WellFormed.{AreAsked};
 ghost use Rattle.dired_run.specs.Faults.{status_of_commit};
 ghost use Rattle.dired_run.specs.Reports.{decided_of, output_of};
 ghost use Rattle.dired_run.specs.Runs.{Decides, outside, last_text};
-ghost use Rattle.dired_run.specs.Statuses.{IsKeptBehind, IsTreeRefusal, calls_behind, sort_of};
+ghost use Rattle.run_status.specs.Statuses.{IsKeptBehind, IsTreeRefusal, calls_behind, sort_of};
 ghost use Rattle.dired_run.specs.Verdicts.{on_tree, flagged_text, counts_text, summary_text};
 
 use crate::output::Output;
-use crate::status::path_text;
 use crate::{Request, Status};
 use commit_run::{CommitEnd, commit};
 use dired_text::{Bytes, Memory, Path};
 use edit_check::{Counts, check};
+use run_status::path_text;
 use std::alloc::Global;
 use tree_core::{Changes, Tree};
 

@@ -1,7 +1,7 @@
 // A drill, in a tree of its own.
 ghost use Rattle.std.specs.Prelude.{◌≡◌, ◌≤◌, IfErr, IfOk};
 ghost use Rattle.std.specs.String.{string_bytes};
-ghost use Rattle.dired_run.specs.declared.status.Status.TheVariants.{Memory as memory};
+ghost use Rattle.run_status.specs.declared.status.Status.TheVariants.{Memory as memory};
 ghost use Rattle.dired_run.specs.Drills.{IsCounted, IsDrillText, drill_text};
 ghost use Rattle.dired_run.specs.Reports.{bytes_of_output};
 

@@ -2,7 +2,7 @@
 ghost use Rattle.std.specs.Prelude.{◌≡◌, ◌≤◌, MatchResult, IfOk, IfErr, Some, Ok, Err, length};
 ghost use Rattle.dired_text.specs.Counts.{raised};
 ghost use Rattle.dired_run.specs.Inputs.{input_of, max_buffer_bytes};
-ghost use Rattle.dired_run.specs.Statuses.{ByCause, IsRefusal};
+ghost use Rattle.run_status.specs.Statuses.{ByCause, IsRefusal};
 
 use crate::{Counted, Status};
 use dired_text::{Bytes, Shelf, ShelfEnd, Text};

@@ -10,8 +10,7 @@ mod program;
 mod recovery;
 mod reports;
 mod requests;
-mod status;
 
 pub use program::run;
 pub use requests::Request;
-pub use status::{Counted, LineCause, Status};
+pub use run_status::{Counted, LineCause, Status};

@@ -4,7 +4,7 @@ ghost use Rattle.tree_core.specs.History.{current_tree};
 ghost use Rattle.subdir_list.specs.Listings.{first_other};
 ghost use Rattle.dired_run.specs.Reports.{decided_of, output_of};
 ghost use Rattle.dired_run.specs.Runs.{Decides, outside};
-ghost use Rattle.dired_run.specs.Statuses.{IsKeptBehind, IsTreeRefusal, calls_behind, sort_of};
+ghost use Rattle.run_status.specs.Statuses.{IsKeptBehind, IsTreeRefusal, calls_behind, sort_of};
 ghost use Rattle.dired_run.specs.Verdicts.{on_dirs};
 
 use crate::Status;

@@ -5,7 +5,7 @@ ghost use Rattle.dired_text.specs.Counts.{Stayed};
 ghost use Rattle.tree_core.specs.History.{current_tree, IsDurable};
 ghost use Rattle.tree_core.specs.Faults.{TreeHeld};
 ghost use Rattle.dired_run.specs.declared.requests.Request.{Request as Asked};
-ghost use Rattle.dired_run.specs.declared.status.Status.TheVariants.{Done, Memory};
+ghost use Rattle.run_status.specs.declared.status.Status.TheVariants.{Done, Memory};
 ghost use Rattle.dired_run.specs.Kept.{IsDoneOrHeld, KeepsUnconfirmed, requested_by};
 ghost use Rattle.dired_run.specs.Requests.{request_of};
 ghost use Rattle.dired_run.specs.Reports.{Said, decided_of, output_of};

@@ -2,7 +2,7 @@
 ghost use Rattle.std.specs.Prelude.{◌≡◌, ℕ, List, Option, IfErr};
 ghost use Rattle.dired_run.specs.Reports.{decided_of, output_of};
 ghost use Rattle.dired_run.specs.Runs.{Decides, outside};
-ghost use Rattle.dired_run.specs.Statuses.{IsKeptBehind, IsTreeRefusal, calls_behind, sort_of};
+ghost use Rattle.run_status.specs.Statuses.{IsKeptBehind, IsTreeRefusal, calls_behind, sort_of};
 ghost use Rattle.dired_run.specs.Verdicts.{Recovers};
 
 use crate::Status;

@@ -1,18 +1,18 @@
 // The last line of a run.
 ghost use Rattle.std.specs.Prelude.{◌≡◌, ◌++◌, true};
 ghost use Rattle.dired_text.specs.Outside.{TakesAs, Counts};
-ghost use Rattle.dired_run.specs.declared.status.Status.TheVariants.{Done as is_done, Unfinished as is_unfinished};
-ghost use Rattle.dired_run.specs.Statuses.{call_failed_text, number_text, text_of, has_fixed_text};
+ghost use Rattle.run_status.specs.declared.status.Status.TheVariants.{Done as is_done, Unfinished as is_unfinished};
+ghost use Rattle.run_status.specs.Statuses.{call_failed_text, number_text, text_of, has_fixed_text};
 ghost use Rattle.dired_run.specs.Reports.{Said, Reported, bytes_of_output};
 
 use crate::Status;
 use crate::output::Output;
-use crate::status::{
+use dired_text::{Failed, Sink};
+use itoa::Buffer;
+use run_status::{
     COMMITTED_BUT, NEITHER, NOTHING_DECIDED, OUT_OF_MEMORY, PENDING, RUN_RECOVER, STEP, TAKEN_BACK,
     THEN, UNREADABLE_AT, USAGE, call_text,
 };
-use dired_text::{Failed, Sink};
-use itoa::Buffer;
 use std::alloc::Global;
 use tree_core::CallName;
 

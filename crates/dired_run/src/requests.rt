@@ -3,10 +3,10 @@ ghost use Rattle.std.specs.Prelude.{◌≡◌, ◌≤◌, ◌⊎◌, MatchResult
 ghost use Rattle.dired_text.specs.Counts.{raised};
 ghost use Rattle.tree_core.specs.declared.changes.Changes.TheVariants.{Edits};
 ghost use Rattle.edit_words.specs.WellFormed.{AreAsked};
-ghost use Rattle.dired_run.specs.declared.status.Status.TheVariants.{Memory as memory};
+ghost use Rattle.run_status.specs.declared.status.Status.TheVariants.{Memory as memory};
 ghost use Rattle.dired_run.specs.Inputs.{max_buffer_bytes};
 ghost use Rattle.dired_run.specs.Requests.{request_of, asked_by, buffer_status as buffer_status_of};
-ghost use Rattle.dired_run.specs.Statuses.{ByCause, IsRefusal};
+ghost use Rattle.run_status.specs.Statuses.{ByCause, IsRefusal};
 
 use crate::inputs::read_input;
 use crate::{Counted, Status};

@@ -2,7 +2,7 @@ use Rattle.std.proofs.Common.{refl, ◌∙◌}
 use Rattle.std.proofs.lemmas.Result.{err_from_is_err_and}
 use Rattle.dired_run.specs.Reports.{decided_of, output_of}
 use Rattle.dired_run.specs.Runs.{no_memory, outside}
-use Rattle.dired_run.specs.Statuses.{sort_of}
+use Rattle.run_status.specs.Statuses.{sort_of}
 use Rattle.dired_run.proofs.CarryLemmas.{check_answers, check_answers_calls, check_ends, commit_answers_calls, commit_answers_kept, commit_decides, stands_behind}
 use Rattle.dired_run.proofs.DecidedLemmas.{kept_same}
 use Rattle.dired_run.proofs.commit.carry_out.Goals as goal

@@ -3,7 +3,7 @@ use Rattle.subdir_list.specs.Listings.{first_other}
 use Rattle.tree_core.specs.History.{current_tree}
 use Rattle.dired_run.specs.Runs.{look_failed, listed, refused}
 use Rattle.dired_run.specs.Verdicts.{Refuses, on_dirs}
-use Rattle.dired_run.specs.declared.status.Status.TheVariants.{Missing}
+use Rattle.run_status.specs.declared.status.Status.TheVariants.{Missing}
 use Rattle.dired_run.proofs.ListLemmas.{dirs_look, failed_faults, failed_look, other_faults, other_named}
 use Rattle.dired_run.proofs.listing.list.Goals as goal
 

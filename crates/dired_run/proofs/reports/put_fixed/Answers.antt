@@ -1,4 +1,4 @@
-use Rattle.dired_run.specs.declared.status.Status.TheVariants.{RolledBack, Strange, TreeFault}
+use Rattle.run_status.specs.declared.status.Status.TheVariants.{RolledBack, Strange, TreeFault}
 use Rattle.dired_run.proofs.ReportLemmas.{status_takes}
 use Rattle.dired_run.proofs.reports.put_fixed.Goals as goal
 

@@ -1,5 +1,5 @@
 use Rattle.std.proofs.Common.{◌∙◌, append_assoc}
-use Rattle.dired_run.proofs.status.line_text.Goals as goal
+use Rattle.run_status.proofs.status.line_text.Goals as goal
 
 -- the pieces in another grouping
 pub returns : goal.returns

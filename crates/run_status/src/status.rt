@@ -2,12 +2,12 @@
 ghost use Rattle.std.specs.Prelude.{◌≡◌, ◌++◌, IfOk, OnOk, codes, decimal, false};
 ghost use Rattle.std.specs.String.{string_bytes};
 ghost use Rattle.dired_text.specs.Escape.{escaped};
-ghost use Rattle.dired_run.specs.Statuses.{call_failed_text as call_failed_text_of, number_text as number_text_of, text_of as text_of_status, call_text as call_text_of, cause_text as cause_text_of, line_text as line_text_of, path_text as path_text_of, field_text as field_text_of, buffer_text, bad_line_text as bad_line_text_of};
-ghost use Rattle.dired_run.specs.Faults.{cause_of_line, status_of_fault};
-ghost use Rattle.dired_run.specs.declared.status.Status.TheVariants.{Faulty as is_faulty, Unfinished};
+ghost use Rattle.run_status.specs.Statuses.{call_failed_text as call_failed_text_of, number_text as number_text_of, text_of as text_of_status, call_text as call_text_of, cause_text as cause_text_of, line_text as line_text_of, path_text as path_text_of, field_text as field_text_of, buffer_text, bad_line_text as bad_line_text_of};
+ghost use Rattle.run_status.specs.Faults.{cause_of_line, status_of_fault};
+ghost use Rattle.run_status.specs.declared.status.Status.TheVariants.{Faulty as is_faulty, Unfinished};
 
 use dired_text::{Memory, Path, Text, escape};
-use edit_check::CheckFault;
+use edit_words::CheckFault;
 use listing_text::Field;
 use std::alloc::Global;
 use tree_core::CallName;
@@ -145,7 +145,7 @@ pub enum Status {
 }
 
 impl Status {
-    ghost use Rattle.dired_run.specs.Statuses.{number_of, text_of, has_fixed_text};
+    ghost use Rattle.run_status.specs.Statuses.{number_of, text_of, has_fixed_text};
 
     /// The number with which the program exits.
     pub fn number(&self) -> u8
@@ -233,27 +233,39 @@ impl Status {
     }
 }
 
-// The fixed texts, which are written without memory.
+// The fixed texts, which can be written without memory.
+
+/// The text of `Usage`.
 pub const USAGE: &str = "dired: usage: list, commit, run, recover or drill\n";
 
+/// The text of `Memory`.
 pub const OUT_OF_MEMORY: &str = "dired: out of memory\n";
 
+/// The text of `Pending`.
 pub const PENDING: &str = "dired: an unfinished commit stands; run recover\n";
 
+/// What stands behind the call of a `TreeFault`.
 pub const NOTHING_DECIDED: &str = " failed; nothing was decided\n";
 
+/// What stands behind the call of a `RolledBack`.
 pub const TAKEN_BACK: &str = " failed; every change was taken back\n";
 
+/// What stands before the call of an `Unclean`.
 pub const COMMITTED_BUT: &str = "dired: committed, but ";
 
+/// What stands between the two calls of an `Unfinished`.
 pub const THEN: &str = " failed, then ";
 
+/// What stands behind the last call of an `Unfinished` or `Unclean`.
 pub const RUN_RECOVER: &str = " failed; run recover\n";
 
+/// What stands before the offset of a `BadJournal`.
 pub const UNREADABLE_AT: &str = "dired: journal unreadable at byte ";
 
+/// What stands before the number of a `Strange`.
 pub const STEP: &str = "dired: step ";
 
+/// What stands behind the number of a `Strange`.
 pub const NEITHER: &str = ": the tree is neither before nor after it\n";
 
 /// The name of a call as texts have it.
@@ -492,7 +504,7 @@ fn faulty(line: u32, cause: LineCause) -> Status
 }
 
 impl Counted {
-    ghost use Rattle.dired_run.specs.Statuses.{counted_text};
+    ghost use Rattle.run_status.specs.Statuses.{counted_text};
 
     /// The name of the quantity.
     pub fn name(self) -> &'static str

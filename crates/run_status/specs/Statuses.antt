@@ -7,16 +7,16 @@ use Rattle.tree_core.specs.declared.faults.Faults.{Faults}
 use Rattle.tree_core.specs.declared.node.CallName.{CallName}
 use Rattle.tree_core.specs.declared.node.CallName.TheVariants.{Kind, Mode, IsEmpty, Meta, Names, Read, MakeDir, MakeLink, MakeHard, WriteFile, Rename, SetMode, Remove, RemoveDir, Sync}
 use Rattle.tree_core.specs.Faults.{with_fault}
-use Rattle.dired_run.specs.declared.status.Counted.{Counted}
+use Rattle.run_status.specs.declared.status.Counted.{Counted}
 use Rattle.listing_text.specs.declared.faults.Field.{Field}
 use Rattle.listing_text.specs.declared.faults.Field.TheVariants as field
 use Rattle.wdired_buffer.specs.declared.faults.BufferCause.{BufferCause}
 use Rattle.wdired_buffer.specs.declared.faults.BufferCause.TheVariants as buffer
-use Rattle.dired_run.specs.declared.status.Counted.TheVariants.{BufferBytes, BufferLines, Edits, PathBytes}
-use Rattle.dired_run.specs.declared.status.LineCause.{LineCause}
-use Rattle.dired_run.specs.declared.status.LineCause.TheVariants as cause
-use Rattle.dired_run.specs.declared.status.Status.{Status}
-use Rattle.dired_run.specs.declared.status.Status.TheVariants.{Done, Usage, Memory, ReadFault, TreeFault, WriteFault, Missing, BadBuffer, Faulty, Unconfirmed, Stale, Pending, RolledBack, Unfinished, Unclean, BadJournal, Foreign, TooLarge, Strange}
+use Rattle.run_status.specs.declared.status.Counted.TheVariants.{BufferBytes, BufferLines, Edits, PathBytes}
+use Rattle.run_status.specs.declared.status.LineCause.{LineCause}
+use Rattle.run_status.specs.declared.status.LineCause.TheVariants as cause
+use Rattle.run_status.specs.declared.status.Status.{Status}
+use Rattle.run_status.specs.declared.status.Status.TheVariants.{Done, Usage, Memory, ReadFault, TreeFault, WriteFault, Missing, BadBuffer, Faulty, Unconfirmed, Stale, Pending, RolledBack, Unfinished, Unclean, BadJournal, Foreign, TooLarge, Strange}
 
 abbrev pub number_of : Status → ℕ
 number_of Done = 0
