@@ -13,7 +13,7 @@ use Rattle.listing_text.specs.declared.switches.Switches.{Switches}
 use Rattle.subdir_list.specs.Listings.{first_other}
 use Rattle.dired_run.specs.declared.requests.Request.{Request}
 use Rattle.run_status.specs.declared.status.Status.{Status}
-use Rattle.run_status.specs.declared.status.Status.TheVariants.{Done, Usage, Memory, ReadFault, TreeFault, WriteFault, Missing, BadBuffer, Faulty, Unconfirmed, Stale, Pending, RolledBack, Unfinished, Unclean, BadJournal, Foreign, TooLarge, Strange}
+use Rattle.run_status.specs.declared.status.Status.TheVariants.{Done, Usage, Memory, ReadFault, TreeFault, WriteFault, Missing, BadBuffer, Faulty, Unconfirmed, Stale, Pending, RolledBack, Unfinished, Unclean, BadJournal, Foreign, BadScript, TooLarge, Strange}
 use Rattle.dired_run.specs.Inputs.{Files}
 use Rattle.dired_run.specs.Requests.{request_of}
 use Rattle.dired_run.specs.Runs.{Outside, Decides, IsSameTree, no_memory, read_failed, refused, of_command, of_request, verdict}
@@ -81,5 +81,6 @@ inputs_decide asked before now (Unfinished first second) is same no_way count = 
 inputs_decide asked before now (Unclean first) is same no_way count = absurd no_way
 inputs_decide asked before now (BadJournal offset) is same cause count = refused (ap (λ r. of_request r (current_tree before.history)) cause) refl same count
 inputs_decide asked before now (Foreign name) is same cause count = refused (ap (λ r. of_request r (current_tree before.history)) cause) refl same count
+inputs_decide asked before now (BadScript line why) is same cause count = refused (ap (λ r. of_request r (current_tree before.history)) cause) refl same count
 inputs_decide asked before now (TooLarge what number) is same cause count = refused (ap (λ r. of_request r (current_tree before.history)) cause) refl same count
 inputs_decide asked before now (Strange step) is same cause count = refused (ap (λ r. of_request r (current_tree before.history)) cause) refl same count

@@ -42,7 +42,7 @@ use Rattle.wdired_buffer.specs.Edits.{Asks, edits_of}
 use Rattle.dired_run.specs.declared.requests.Request.{Request}
 use Rattle.run_status.specs.declared.status.Counted.TheVariants.{Edits as ManyEdits}
 use Rattle.run_status.specs.declared.status.Status.{Status}
-use Rattle.run_status.specs.declared.status.Status.TheVariants.{Done, Usage, Memory, ReadFault, TreeFault, WriteFault, Missing, BadBuffer, Faulty, Unconfirmed, Stale, Pending, RolledBack, Unfinished, Unclean, BadJournal, Foreign, TooLarge, Strange}
+use Rattle.run_status.specs.declared.status.Status.TheVariants.{Done, Usage, Memory, ReadFault, TreeFault, WriteFault, Missing, BadBuffer, Faulty, Unconfirmed, Stale, Pending, RolledBack, Unfinished, Unclean, BadJournal, Foreign, BadScript, TooLarge, Strange}
 use Rattle.dired_run.specs.Faults.{status_of_commit}
 use Rattle.run_status.specs.Faults.{status_of_fault}
 use Rattle.dired_run.specs.Inputs.{Files, input_of}
@@ -227,6 +227,7 @@ numbered_done (Unfinished first second) is = absurd (omega arith)
 numbered_done (Unclean first) is = absurd (omega arith)
 numbered_done (BadJournal offset) is = absurd (omega arith)
 numbered_done (Foreign name) is = absurd (omega arith)
+numbered_done (BadScript line cause) is = absurd (omega arith)
 numbered_done (TooLarge what number) is = absurd (omega arith)
 numbered_done (Strange step) is = absurd (omega arith)
 

@@ -97,6 +97,7 @@ fn put_fixed<W: Sink>(sink: &mut W, status: &Status) -> Result<(), Failed>
         | Status::Faulty { .. }
         | Status::Unconfirmed { .. }
         | Status::Stale { .. }
+        | Status::BadScript { .. }
         | Status::TooLarge { .. } => unreachable!(),
     }
 }

@@ -12,11 +12,12 @@ use Rattle.listing_text.specs.declared.faults.Field.{Field}
 use Rattle.listing_text.specs.declared.faults.Field.TheVariants as field
 use Rattle.wdired_buffer.specs.declared.faults.BufferCause.{BufferCause}
 use Rattle.wdired_buffer.specs.declared.faults.BufferCause.TheVariants as buffer
-use Rattle.run_status.specs.declared.status.Counted.TheVariants.{BufferBytes, BufferLines, Edits, PathBytes}
+use Rattle.run_status.specs.declared.status.Counted.TheVariants.{BufferBytes, BufferLines, Edits, PathBytes, ScriptBytes, ScriptLines}
 use Rattle.run_status.specs.declared.status.LineCause.{LineCause}
 use Rattle.run_status.specs.declared.status.LineCause.TheVariants as cause
 use Rattle.run_status.specs.declared.status.Status.{Status}
-use Rattle.run_status.specs.declared.status.Status.TheVariants.{Done, Usage, Memory, ReadFault, TreeFault, WriteFault, Missing, BadBuffer, Faulty, Unconfirmed, Stale, Pending, RolledBack, Unfinished, Unclean, BadJournal, Foreign, TooLarge, Strange}
+use Rattle.run_status.specs.declared.status.Status.TheVariants.{Done, Usage, Memory, ReadFault, TreeFault, WriteFault, Missing, BadBuffer, Faulty, Unconfirmed, Stale, Pending, RolledBack, Unfinished, Unclean, BadJournal, Foreign, BadScript, TooLarge, Strange}
+use Rattle.run_status.specs.Scripts.{script_line_text, script_text}
 
 abbrev pub number_of : Status → ℕ
 number_of Done = 0
@@ -36,6 +37,7 @@ number_of (Unfinished first second) = 13
 number_of (Unclean first) = 14
 number_of (BadJournal offset) = 15
 number_of (Foreign name) = 16
+number_of (BadScript line cause) = 17
 number_of (TooLarge what number) = 18
 number_of (Strange step) = 21
 
@@ -61,6 +63,8 @@ counted_text BufferBytes = codes "BufferBytes"
 counted_text BufferLines = codes "BufferLines"
 counted_text Edits = codes "Edits"
 counted_text PathBytes = codes "PathBytes"
+counted_text ScriptBytes = codes "ScriptBytes"
+counted_text ScriptLines = codes "ScriptLines"
 
 -- a path as texts have it
 abbrev pub path_text : Path → List ℕ
@@ -139,6 +143,7 @@ text_of (Unclean first) = call_failed_text (codes "dired: committed, but ") firs
 text_of (BadJournal offset) = number_text (codes "dired: journal unreadable at byte ") offset (codes "\n")
 text_of (Foreign name) = codes "dired: not of this program: " ++ escaped false name ++ codes "\n"
 text_of (Strange step) = number_text (codes "dired: step ") step (codes ": the tree is neither before nor after it\n")
+text_of (BadScript line cause) = script_line_text line (script_text cause)
 text_of (TooLarge what number) = codes "dired: too large: " ++ counted_text what ++ codes " " ++ decimal number ++ codes "\n"
 
 -- ---- What a status tells.
@@ -175,6 +180,7 @@ sort_of (Unfinished first second) = Calls (first ∷ second ∷ [])
 sort_of (Unclean first) = Calls (first ∷ [])
 sort_of (BadJournal offset) = Refusal true
 sort_of (Foreign name) = Refusal false
+sort_of (BadScript line cause) = Refusal false
 sort_of (TooLarge what number) = Refusal false
 sort_of (Strange step) = Encounter
 

@@ -1,6 +1,7 @@
 //! What a run answers: its statuses, with their numbers and texts.
 #![tactic(auto)]
 
+mod scripts;
 mod status;
 
 pub use status::{

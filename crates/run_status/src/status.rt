@@ -6,9 +6,11 @@ ghost use Rattle.run_status.specs.Statuses.{call_failed_text as call_failed_text
 ghost use Rattle.run_status.specs.Faults.{cause_of_line, status_of_fault};
 ghost use Rattle.run_status.specs.declared.status.Status.TheVariants.{Faulty as is_faulty, Unfinished};
 
+use crate::scripts::{script_line_text, script_text};
 use dired_text::{Memory, Path, Text, escape};
 use edit_words::CheckFault;
 use listing_text::Field;
+use script_words::ScriptCause;
 use std::alloc::Global;
 use tree_core::CallName;
 use wdired_buffer::BufferCause;
@@ -24,6 +26,10 @@ pub enum Counted {
     Edits,
     /// The bytes of the paths of one commit, at most 67,108,864.
     PathBytes,
+    /// The bytes of a script, at most 16,777,216.
+    ScriptBytes,
+    /// The lines of a script, at most 100,000.
+    ScriptLines,
 }
 
 /// Why a line of AFTER can't be taken. A cause that carries the number of a line clashes with that line; one that carries a
@@ -137,7 +143,12 @@ pub enum Status {
     Strange {
         step: u64,
     },
-    /// A quantity is above its limit. `number` is the limit plus 1 for the bytes of a buffer, and else the quantity.
+    /// This line of the script, counted from 1, shows that its command can't be carried out, for this cause.
+    BadScript {
+        line: u32,
+        cause: ScriptCause,
+    },
+    /// A quantity is above its limit. `number` is the limit plus 1 for the bytes of a buffer or a script, and else the quantity.
     TooLarge {
         what: Counted,
         number: u64,
@@ -169,6 +180,7 @@ impl Status {
             Status::Unclean { .. } => 14,
             Status::BadJournal { .. } => 15,
             Status::Foreign { .. } => 16,
+            Status::BadScript { .. } => 17,
             Status::TooLarge { .. } => 18,
             Status::Strange { .. } => 21,
         }
@@ -187,6 +199,7 @@ impl Status {
                 | Status::Unconfirmed { .. }
                 | Status::Stale { .. }
                 | Status::Foreign { .. }
+                | Status::BadScript { .. }
                 | Status::TooLarge { .. }
         )
     }
@@ -226,6 +239,10 @@ impl Status {
             Status::BadJournal { offset } => number_text(alloc, UNREADABLE_AT, *offset, "\n"),
             Status::Foreign { name } => named_text(alloc, "not of this program: ", name),
             Status::Strange { step } => number_text(alloc, STEP, *step, NEITHER),
+            Status::BadScript { line, cause } => {
+                let cause = script_text(alloc, *cause)?;
+                script_line_text(alloc, *line, cause.as_str())
+            }
             Status::TooLarge { what, number } => {
                 Ok(format!(in alloc; "dired: too large: {} {number}\n", what.name())?)
             }
@@ -515,6 +532,8 @@ impl Counted {
             Counted::BufferLines => "BufferLines",
             Counted::Edits => "Edits",
             Counted::PathBytes => "PathBytes",
+            Counted::ScriptBytes => "ScriptBytes",
+            Counted::ScriptLines => "ScriptLines",
         }
     }
 }
