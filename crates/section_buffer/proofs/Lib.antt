@@ -6,3 +6,4 @@ pub mod UndoLemmas
 pub mod TakeLemmas
 pub mod GatherLemmas
 pub mod PrintLemmas
+pub mod HideLemmas

@@ -1,5 +1,6 @@
 pub mod Rows
 pub mod Places
+pub mod Sections
 pub mod Buffers
 pub mod Held
 pub mod Printed

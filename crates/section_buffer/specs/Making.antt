@@ -15,6 +15,10 @@ use Rattle.section_buffer.specs.Buffers.{BufferState, of_root}
 abbrev pub IsNew : Switches → FileTree → (Names → Meta) → BufferState → Type 0
 IsNew switches t fields b = (lines : List Line) × IsListed switches t fields [] lines × (b ≡ of_root switches lines)
 
+-- a buffer of the root's section, shown, with lines of any kind
+abbrev pub IsOfRoot : Switches → BufferState → Type 0
+IsOfRoot switches b = (lines : List Line) × (b ≡ of_root switches lines)
+
 -- the failed call of the tree that an end names
 abbrev pub failed_call : BufferEnd → Option CallName
 failed_call NoSuchDir = None

@@ -4,13 +4,15 @@ ghost use Rattle.link_rows.specs.Values.{HasValues};
 ghost use Rattle.mark_table.specs.PathMarks.{is_among};
 ghost use Rattle.tree_core.specs.History.{current_tree};
 ghost use Rattle.tree_core.specs.Looks.{OnlyLooked, failed_in, faults_with};
-ghost use Rattle.section_buffer.specs.Making.{IsFaultOrMemory, IsNew, failed_call};
+ghost use Rattle.section_buffer.specs.Making.{IsFaultOrMemory, IsNew, IsOfRoot, failed_call};
 ghost use Rattle.section_buffer.specs.Printed.{PrintsAs, faults_behind, printed};
 ghost use Rattle.section_buffer.specs.Rows.{rows_of};
+ghost use Rattle.section_buffer.specs.Sections.{hidden_at};
 ghost use Rattle.section_buffer.specs.Buffers.{KillsComeBack, Leads, all_lines, line_killed, of_root, section_killed, turned, unkilled};
 
 use crate::finding::{head_row, line_row};
 use crate::gathering::copy_sections;
+use crate::hiding::section_hidden;
 use crate::kept::Kept;
 use crate::printing::text_of;
 use crate::taking::{take_section, undo_kill};
@@ -63,6 +65,7 @@ impl Buffer {
     pub fn new<T: Tree>(alloc: Global, tree: &mut T, switches: Switches) -> Result<Self, BufferEnd>
         ensures listed { T.Tells → IfOk result
             (λ b. IsNew switches (current_tree (T.history tree.old)) (T.fields tree.old) b) }
+        ensures root { IfOk result (λ b. IsOfRoot switches b) }
         ensures end { IfErr result IsFaultOrMemory }
         ensures looked { T.Tells → OnlyLooked (failed_in failed_call result) (T.history tree.old) (T.history tree.new)
             (T.fields tree.old) (T.fields tree.new) (T.before_failed tree.old) (T.before_failed tree.new) }
@@ -128,6 +131,14 @@ impl Buffer {
         self.rows.rows()
     }
 
+    /// How many rows there are: the head of each section, and its lines.
+    pub fn row_count(&self) -> usize
+        ensures { result ≡ length (rows_of self.now.sections) }
+    {
+        self.rows.rows_differ();
+        self.rows.len()
+    }
+
     /// Copies of the sections, in order.
     ///
     /// # Errors
@@ -172,6 +183,13 @@ impl Buffer {
     {
         let sections = self.sections()?;
         text_of(*self.kept.allocator(), sections, marks, omitted)
+    }
+
+    /// Whether the lines of a directory's section are hidden, or None where there is no such section.
+    pub fn is_hidden(&self, dir: &Path) -> Option<bool>
+        ensures { result ≡ hidden_at dir.now self.now.sections }
+    {
+        section_hidden(&self.rows, dir)
     }
 
     /// Hides the lines of a directory's section, or of one that is hidden nothing more.

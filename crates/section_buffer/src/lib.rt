@@ -5,6 +5,7 @@ mod buffer;
 mod ends;
 mod finding;
 mod gathering;
+mod hiding;
 mod kept;
 mod printing;
 mod section;
