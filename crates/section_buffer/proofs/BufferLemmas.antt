@@ -2,7 +2,7 @@
 use Rattle.std.proofs.Common.{◌≡◌, ◌≢◌, ℕ, ◌+◌, ◌-◌, ◌<◌, ◌≤◌, zero, suc, List, [], ◌∷◌, ◌++◌, length, map, drop, reverse, refl, ap, sym, subst, ◌∙◌, arith, length-append, append-nil, Some, None, Option, Bool, true, false, Contains, inl, inr, if◌then◌else◌}
 use Rattle.std.specs.Option.{option_map}
 use Rattle.std.proofs.lemmas.Bool.Decides.{eqb_tells}
-use Rattle.std.proofs.lemmas.List.{length-map, reverse-append}
+use Rattle.std.proofs.lemmas.List.{reverse-append}
 use Rattle.link_rows.specs.Net.{AllBelow}
 use Rattle.link_rows.specs.Values.{value_at}
 use Rattle.link_rows.proofs.NetLemmas.{Misses, Unique, unique-missed}
@@ -11,16 +11,16 @@ use Rattle.listing_text.specs.declared.line.Line.{Line as line_type}
 use Rattle.listing_text.specs.declared.switches.Switches.{Switches}
 use Rattle.section_rows.specs.declared.row.BufferRow.{BufferRow}
 use Rattle.section_rows.specs.declared.row.BufferRow.TheVariants.{Head, Line}
-use Rattle.section_rows.specs.Orders.{AreOut, Ordered, Step, Taken, Put, forgotten, put_in, run, taken, values_in, with_hidden, with_value}
+use Rattle.section_rows.specs.Orders.{AreOut, Ordered, Step, Taken, Put, forgotten, no_rows, put_in, run, taken, values_in, with_hidden, with_value}
 use Rattle.section_rows.proofs.OrderLemmas.{below-mid, below-split, unique-back}
 use Rattle.section_rows.proofs.ListLemmas.{mid-contains}
 use Rattle.section_buffer.specs.declared.kept.Kept.{Kept}
 use Rattle.section_buffer.specs.declared.kept.Kept.TheVariants.{Kill, Insertion}
 use Rattle.section_buffer.specs.declared.section.Section.{Section}
-use Rattle.section_buffer.specs.Rows.{lines_of, rows_of, sections_of}
+use Rattle.section_buffer.specs.Rows.{lines_of, sections_of}
 use Rattle.section_buffer.specs.Places.{head_place, line_place, same_names}
-use Rattle.section_buffer.specs.Buffers.{BufferState, Event, Inserted, Killed, killed, line_killed, of_root, turned, turned_in}
-use Rattle.section_buffer.specs.Held.{AreChanges, IsBuffer, IsRootFirst, changes_in, dir_in, dir_put, events_of, place_in, seen_as, steps_taken, taken_values}
+use Rattle.section_buffer.specs.Buffers.{BufferState, Event, Inserted, Killed, killed, line_killed, of_root, of_sections, rows_of_section, turned, turned_in}
+use Rattle.section_buffer.specs.Held.{AreChanges, AreOfRows, IsBuffer, IsRootFirst, changes_in, count_put, dir_in, dir_put, events_of, place_in, seen_as, steps_taken, taken_values, with_made}
 use Rattle.section_buffer.proofs.RowLemmas.{rows-sections, sections-rows, values-run, values-split, values-length}
 use Rattle.section_buffer.proofs.KillLemmas.{kill-held, kill-seen, ordered, state, taken-one}
 
@@ -29,42 +29,78 @@ kept-first items later change e = ap reverse e ∙ reverse-append items (change 
 
 -- more room
 pub held-wider : (o : Ordered) (kept : List Kept) (room more : ℕ) → IsBuffer o kept room → room ≤ more → IsBuffer o kept more
-held-wider o kept room more h wide = record { built = h.built; root = h.root; changes = h.changes; fits = omega (arith, h.fits) }
+held-wider o kept room more h wide = record { built = h.built; root = h.root; changes = h.changes; below = h.below; fits = omega (arith, h.fits) }
 
 -- there is room for another change, as long as rows stand
-changes-many : (many : ℕ) (steps : List Step) (kept : List Kept) → AreChanges many steps kept → length kept ≤ changes_in kept
-changes-many many steps [] k = omega arith
-changes-many many steps (Kill n ∷ kept) k = let rest = changes-many (many + n) k.2 kept k.8 in omega (arith, k.5)
-changes-many many steps (Insertion ∷ kept) k = absurd k
+pub changes-many : (order : List ℕ) (steps : List Step) (kept : List Kept) → AreChanges order steps kept → length kept ≤ changes_in kept
+changes-many order steps [] k = omega arith
+changes-many order steps (Kill n ∷ kept) k = let rest = changes-many (k.0 ++ (k.1 ++ k.2)) k.3 kept k.9 in omega (arith, k.7)
+changes-many order steps (Insertion at head ∷ kept) k = let rest = changes-many (k.0 ++ k.2) k.3 kept k.8 in omega arith
 
 pub room-left : (o : Ordered) (kept : List Kept) (room : ℕ) → IsBuffer o kept room → 0 < length o.order → length kept < room
-room-left o kept room h some = let many = changes-many (length o.order) o.steps kept h.changes in omega (arith, h.fits)
+room-left o kept room h some = let many = changes-many o.order o.steps kept h.changes in omega (arith, h.fits)
 
 pub some-rows : (o : Ordered) (fs : List ℕ) (r : ℕ) (gs : List ℕ) → o.order ≡ fs ++ r ∷ gs → 0 < length o.order
 some-rows o fs r gs parts = let e : length o.order ≡ length (fs ++ r ∷ gs) = ap length parts in omega (arith, length-append fs (r ∷ gs))
 
 -- a new buffer
-pub new-values : (lines : List line_type) (rows : List BufferRow) → rows ≡ Head [] false ∷ map Line lines → values_in rows (run 0 (length rows) ++ []) ≡ Head [] false ∷ map Line lines
-new-values lines rows e =
-    ap (values_in rows) (append-nil (run 0 (length rows))) ∙ (values-run [] rows 0 refl ∙ e)
+new-values : (vs : List BufferRow) → values_in vs (run 0 (length vs) ++ []) ≡ vs
+new-values vs = ap (values_in vs) (append-nil (run 0 (length vs))) ∙ values-run [] vs 0 refl
+
+some-first : (vs : List BufferRow) → IsRootFirst vs → 0 < length vs
+some-first [] h = absurd h
+some-first (v ∷ vs) h = omega arith
+
+-- rows that were made, and no others
+pub made-whole : (rows t : Ordered) (vs : List BufferRow) → t ≡ no_rows → rows ≡ with_made vs t → (rows ≡ with_made rows.values no_rows) × (rows.values ≡ vs)
+made-whole rows t vs e made =
+    let whole : rows ≡ with_made vs no_rows = made ∙ ap (with_made vs) e in
+    let values : rows.values ≡ vs = ap (λ (x : Ordered). x.values) whole in
+    (whole ∙ ap (λ (us : List BufferRow). with_made us no_rows) (sym values), values)
+
+pub some-made : (t : Ordered) → t ≡ with_made t.values no_rows → IsRootFirst t.values → 0 < t.built
+some-made t made root =
+    let many : t.built ≡ length t.values + 0 = ap (λ (x : Ordered). x.built) made in
+    omega (arith, some-first t.values root)
+
+-- they are put in at once
+module _ (switches : Switches) (t o : Ordered) (made : t ≡ with_made t.values no_rows) (root : IsRootFirst t.values) (is : o ≡ forgotten (put_in None t)) where
+  order-is : o.order ≡ run 0 (length t.values) ++ []
+  order-is =
+      let many : t.built ≡ length t.values + 0 = ap (λ (x : Ordered). x.built) made in
+      let same : t.built ≡ length t.values = omega arith in
+      let first : length t.values - t.built ≡ 0 = omega arith in
+      let none : t.order ≡ [] = ap (λ (x : Ordered). x.order) made in
+      ap (λ (x : Ordered). x.order) is
+      ∙ (ap (λ (n : ℕ). run n t.built ++ t.order) first
+      ∙ (ap (λ (n : ℕ). run 0 n ++ t.order) same ∙ ap (λ (rest : List ℕ). run 0 (length t.values) ++ rest) none))
+
+  rows-are : values_in o.values o.order ≡ t.values
+  rows-are =
+      let values : o.values ≡ t.values = ap (λ (x : Ordered). x.values) is in
+      ap (λ (vs : List BufferRow). values_in vs o.order) values ∙ (ap (values_in t.values) order-is ∙ new-values t.values)
+
+  pub made-seen : seen_as switches o [] ≡ of_sections switches (sections_of t.values)
+  made-seen = ap (λ (rows : List BufferRow). state switches rows []) rows-are
+
+  pub made-held : (room : ℕ) → length o.order ≤ room → IsBuffer o [] room
+  made-held room wide = record {
+    built = ap (λ (x : Ordered). x.built) is;
+    root = subst (λ (rows : List BufferRow). IsRootFirst rows) (sym rows-are) root;
+    changes = tt;
+    below = subst (λ (s : List Step). AreOfRows (length o.values) s) (sym (ap (λ (x : Ordered). x.steps) is)) tt;
+    fits = omega arith;
+  }
 
 root_section : List line_type → Section
 root_section lines = record { dir = []; hidden = false; lines = lines }
 
-pub new-seen : (switches : Switches) (o : Ordered) (lines : List line_type) → o.values ≡ Head [] false ∷ map Line lines → o.order ≡ run 0 (length o.values) ++ [] → seen_as switches o [] ≡ of_root switches lines
+-- and are those of the root alone
+pub root-sections : (switches : Switches) (lines : List line_type) → of_sections switches (sections_of (rows_of_section [] false lines)) ≡ of_root switches lines
 unfolding root_section
-new-seen switches o lines e f =
-    let vs : values_in o.values o.order ≡ rows_of (root_section lines ∷ []) =
-    ap (values_in o.values) f ∙ (new-values lines o.values e ∙ ap (λ x. Head [] false ∷ x) (sym (append-nil (map Line lines)))) in
-    ap (λ v. state switches v []) vs ∙ ap (λ s. record { switches = switches; sections = s; events = [] }) (rows-sections (root_section lines ∷ []))
-
-pub new-held : (o : Ordered) (lines : List line_type) (room : ℕ) → o.values ≡ Head [] false ∷ map Line lines → o.order ≡ run 0 (length o.values) ++ [] → o.built ≡ 0 → length o.order ≤ room → IsBuffer o [] room
-new-held o lines room e f built wide = record {
-  built = built;
-  root = subst (λ v. IsRootFirst v) (sym (ap (values_in o.values) f ∙ new-values lines o.values e)) tt;
-  changes = tt;
-  fits = omega arith;
-}
+root-sections switches lines =
+    ap (λ (rows : List BufferRow). of_sections switches (sections_of (Head [] false ∷ rows))) (sym (append-nil (map Line lines)))
+    ∙ ap (λ (sections : List Section). of_sections switches sections) (rows-sections (root_section lines ∷ []))
 
 abbrev pub with_sections : Switches → List Section → List Event → BufferState
 with_sections switches sections events = record { switches = switches; sections = sections; events = events }
@@ -148,6 +184,11 @@ values-missed f r values [] m = refl
 values-missed f r values (x ∷ xs) m =
     ap (λ front. front ++ values_in (with_value f r values) xs) (value-missed f r x values m.0) ∙ ap (λ back. value_at values x ++ back) (values-missed f r values xs m.1)
 
+with-value-length : (f : BufferRow → BufferRow) (r : ℕ) (values : List BufferRow) → length (with_value f r values) ≡ length values
+with-value-length f r [] = refl
+with-value-length f zero (v ∷ values) = refl
+with-value-length f (suc r) (v ∷ values) = ap suc (with-value-length f r values)
+
 value-here : (f : BufferRow → BufferRow) (r : ℕ) (values : List BufferRow) → value_at (with_value f r values) r ≡ map f (value_at values r)
 value-here f r [] = refl
 value-here f zero (v ∷ values) = refl
@@ -188,9 +229,9 @@ events-stay hidden r values order steps [] c out = refl
 events-stay hidden r values order steps (Kill n ∷ kept) c out =
     ap (λ vs. Killed (place_in steps) vs ∷ events_of (with_value (with_hidden hidden) r values) (drop n steps) kept) (taken-missed (with_hidden hidden) r values order n steps c out)
     ∙ ap (λ es. Killed (place_in steps) (taken_values values n steps) ∷ es) (events-stay hidden r values order (drop n steps) kept c (drop-out order n steps out))
-events-stay hidden r values order steps (Insertion ∷ kept) c out =
-    ap (λ dir. Inserted dir ∷ events_of (with_value (with_hidden hidden) r values) (drop 1 steps) kept) (dir-put-stays hidden r values steps)
-    ∙ ap (λ es. Inserted (dir_put values steps) ∷ es) (events-stay hidden r values order (drop 1 steps) kept c (drop-out order 1 steps out))
+events-stay hidden r values order steps (Insertion at head ∷ kept) c out =
+    ap (λ dir. Inserted at (count_put steps) dir ∷ events_of (with_value (with_hidden hidden) r values) (drop 1 steps) kept) (dir-put-stays hidden r values steps)
+    ∙ ap (λ es. Inserted at (count_put steps) (dir_put values steps) ∷ es) (events-stay hidden r values order (drop 1 steps) kept c (drop-out order 1 steps out))
 
 lines-stay : (front : List BufferRow) (dir : Names) (old hidden : Bool) (rows : List BufferRow) → lines_of (front ++ Head dir old ∷ rows) ≡ lines_of (front ++ Head dir hidden ∷ rows)
 lines-stay [] dir old hidden rows = refl
@@ -331,18 +372,6 @@ module _ (switches : Switches) (o : Ordered) (kept : List Kept) (room : ℕ) (h 
       built = h.built;
       root = subst (λ x. IsRootFirst x) (sym new_rows) (root-turned F G of is_head.1 hidden (subst (λ x. IsRootFirst x) old_rows h.root));
       changes = h.changes;
+      below = subst (λ n. AreOfRows n o.steps) (sym (with-value-length (with_hidden hidden) r o.values)) h.below;
       fits = h.fits;
     }
-
--- the rows of a new buffer, put in at once
-pub made-rows : (t o : Ordered) (lines : List line_type) → o ≡ forgotten (put_in None t) → t.order ≡ [] → t.built ≡ suc (length lines) → t.values ≡ Head [] false ∷ map Line lines → (o.values ≡ Head [] false ∷ map Line lines) × (o.order ≡ run 0 (length o.values) ++ []) × (o.built ≡ 0)
-made-rows t o lines e none built values =
-    let many : length t.values ≡ suc (length lines) = ap length values ∙ ap suc (length-map lines Line) in
-    let first : length t.values - t.built ≡ 0 = omega arith in
-    let same : t.built ≡ length t.values = omega arith in
-    let kept : o.values ≡ t.values = ap (λ (x : Ordered). x.values) e in
-    let order : o.order ≡ run (length t.values - t.built) t.built ++ t.order = ap (λ (x : Ordered). x.order) e in (
-      kept ∙ values,
-      order ∙ (ap (λ n. run n t.built ++ t.order) first ∙ (ap (λ n. run 0 n ++ t.order) (same ∙ ap length (sym kept)) ∙ ap (λ rest. run 0 (length o.values) ++ rest) none)),
-      ap (λ (x : Ordered). x.built) e,
-    )

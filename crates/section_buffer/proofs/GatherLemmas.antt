@@ -18,7 +18,7 @@ module _ (o : Ordered) (r : ℕ) (v : BufferRow) (b : AllBelow (length o.values)
   abbrev rest : List BufferRow
   rest = values_in o.values (drop 1 (from_row r o.order))
 
-  from-values : values_in o.values (from_row r o.order) ≡ v ∷ rest
+  pub from-values : values_in o.values (from_row r o.order) ≡ v ∷ rest
   from-values =
       let k = from-some o.order r c in
       ap (values_in o.values) k.1 ∙ (rest-values o r v k.0 b c e ∙ ap (λ x. v ∷ values_in o.values (drop 1 x)) (sym k.1))

@@ -1,19 +1,19 @@
 -- Rows that are taken out, and put back.
-use Rattle.std.proofs.Common.{◌≡◌, ℕ, ◌+◌, ◌<◌, ◌≤◌, suc, List, [], ◌∷◌, ◌++◌, length, take, drop, refl, ap, sym, subst, ◌∙◌, arith, length-append, append_assoc, append-nil, Some}
-use Rattle.std.proofs.lemmas.List.{take_at, drop_at, take-append-drop}
+use Rattle.std.proofs.Common.{◌≡◌, ℕ, ◌+◌, ◌-◌, ◌<◌, ◌≤◌, suc, List, [], ◌∷◌, ◌++◌, length, take, drop, refl, ap, sym, subst, ◌∙◌, arith, length-append, append_assoc, append-nil, Some}
+use Rattle.std.proofs.lemmas.List.{take_at, drop_at}
 use Rattle.link_rows.specs.Net.{AllBelow}
 use Rattle.link_rows.specs.Values.{value_at}
 use Rattle.link_rows.proofs.NetLemmas.{Misses, Unique, unique-missed}
 use Rattle.listing_text.specs.declared.switches.Switches.{Switches}
 use Rattle.section_rows.specs.declared.row.BufferRow.{BufferRow}
-use Rattle.section_rows.specs.Orders.{Ordered, Step, Taken, place_of, taken, undone, values_in, with_at}
+use Rattle.section_rows.specs.Orders.{Ordered, Step, Taken, place_of, taken, undone, values_in}
 use Rattle.section_rows.proofs.OrderLemmas.{below-split, place-at, with-at, without-at}
 use Rattle.section_buffer.specs.declared.kept.Kept.{Kept}
 use Rattle.section_buffer.specs.declared.kept.Kept.TheVariants.{Kill}
 use Rattle.section_buffer.specs.Rows.{rows_of, sections_of, with_rows, without_rows}
 use Rattle.section_buffer.specs.Buffers.{BufferState, Event, Killed, killed, unkilled}
-use Rattle.section_buffer.specs.Held.{AreChanges, IsBuffer, IsRootFirst, events_of, place_in, seen_as, steps_taken, steps_undone, taken_values}
-use Rattle.section_buffer.proofs.RowLemmas.{length-take, root-stays, sections-rows, values-drop, values-length, values-split, values-take}
+use Rattle.section_buffer.specs.Held.{AreChanges, AreOfRows, IsBuffer, IsRootFirst, events_of, place_in, seen_as, steps_taken, steps_undone, taken_values}
+use Rattle.section_buffer.proofs.RowLemmas.{root-stays, sections-rows, values-length, values-split}
 
 abbrev pub ordered : List ℕ → List BufferRow → List Step → Ordered
 ordered order values steps = record { order = order; built = 0; values = values; steps = steps }
@@ -62,6 +62,15 @@ event-taken values at rows steps n kept e h =
     ap (λ k. Killed k (taken_values values n all) ∷ events_of values (drop n all) kept) (taken-place at rows steps (omega arith))
     ∙ (ap (λ vs. Killed at vs ∷ events_of values (drop n all) kept) (taken-more values at rows steps n 0 (omega arith))
     ∙ ap (λ older. Killed at (values_in values rows) ∷ events_of values older kept) (drop-more at rows steps n 0 (omega arith)))
+
+-- steps of rows
+pub taken-below : (n at : ℕ) (rows : List ℕ) (steps : List Step) → AllBelow n rows → AreOfRows n steps → AreOfRows n (steps_taken at rows steps)
+taken-below n at [] steps b h = h
+taken-below n at (r ∷ rows) steps b h = taken-below n at rows (Taken at r ∷ steps) b.1 (b.0, h)
+
+pub below-taken : (n at : ℕ) (rows : List ℕ) (steps : List Step) → AreOfRows n (steps_taken at rows steps) → AreOfRows n steps
+below-taken n at [] steps h = h
+below-taken n at (r ∷ rows) steps h = (below-taken n at rows (Taken at r ∷ steps) h).1
 
 -- these rows are killed
 module _ (switches : Switches) (o : Ordered) (kept : List Kept) (room more : ℕ) (h : IsBuffer o kept room) (below : AllBelow (length o.values) o.order)
@@ -120,79 +129,92 @@ module _ (switches : Switches) (o : Ordered) (kept : List Kept) (room more : ℕ
       let e : length o.order ≡ length (fs ++ (rs ++ gs)) = ap length parts in
       omega (arith, length-append fs gs, length-append fs (rs ++ gs), length-append rs gs) in
       let whole : IsRootFirst (F ++ (R ++ G)) = subst (λ v. IsRootFirst v) all-parts h.root in
-      let low : length fs ≤ length (fs ++ gs) = omega (arith, length-append fs gs) in
       record {
         built = refl;
         root = subst (λ v. IsRootFirst v) (sym (values-split o.values fs gs)) (root-stays F (R ++ G) G (omega (arith, len-F)) whole);
-        changes = (length fs, rs, o.steps, refl, refl, some, behind, low, subst (λ n. AreChanges n o.steps kept) (sym many) h.changes);
+        changes = (fs, rs, gs, o.steps, refl, refl, refl, some, behind, subst (λ x. AreChanges x o.steps kept) parts h.changes);
+        below = taken-below (length o.values) (length fs) rs o.steps (below-split (length o.values) rs gs (below-split (length o.values) fs (rs ++ gs) all-below).1).0 h.below;
         fits = omega (arith, h.fits);
       }
 
 -- steps are undone
-pub undone-all : (at : ℕ) (rows : List ℕ) (older : List Step) (order : List ℕ) (values : List BufferRow) → at ≤ length order → steps_undone (length rows) (ordered order values (steps_taken at rows older)) ≡ ordered (take at order ++ (rows ++ drop at order)) values older
-undone-all at [] older order values h = ap (λ x. ordered x values older) (sym (take-append-drop at order))
-undone-all at (r ∷ rows) older order values h =
-    let front = take at order in
-    let back = rows ++ drop at order in
-    let n : length front ≡ at = length-take at order h in
-    ap undone (undone-all at rows (Taken at r ∷ older) order values h)
-    ∙ ap (λ x. ordered x values older) (ap (λ k. with_at k r (front ++ back)) (sym n) ∙ with-at r front back)
+pub undone-all : (fs rows gs : List ℕ) (older : List Step) (values : List BufferRow) → steps_undone (length rows) (ordered (fs ++ gs) values (steps_taken (length fs) rows older)) ≡ ordered (fs ++ (rows ++ gs)) values older
+undone-all fs [] gs older values = refl
+undone-all fs (r ∷ rows) gs older values =
+    ap undone (undone-all fs rows gs (Taken (length fs) r ∷ older) values) ∙ ap (λ x. ordered x values older) (with-at r fs (rows ++ gs))
 
 -- the rows of the last kill are put back
 module _ (switches : Switches) (o : Ordered) (n : ℕ) (kept : List Kept) (room : ℕ) (h : IsBuffer o (Kill n ∷ kept) room) (below : AllBelow (length o.values) o.order) where
-  abbrev at : ℕ
-  at = h.changes.0
+  abbrev fs : List ℕ
+  fs = h.changes.0
 
   abbrev rs : List ℕ
   rs = h.changes.1
 
-  abbrev older : List Step
-  older = h.changes.2
+  abbrev gs : List ℕ
+  gs = h.changes.2
 
-  abbrev order : List ℕ
-  order = take at o.order ++ (rs ++ drop at o.order)
+  abbrev older : List Step
+  older = h.changes.3
+
+  abbrev at : ℕ
+  at = length fs
 
   abbrev pub with_them : Ordered
-  with_them = ordered order o.values older
+  with_them = ordered (fs ++ (rs ++ gs)) o.values older
 
   pub back-undone : steps_undone n o ≡ with_them
   back-undone =
-      ap (λ k. steps_undone k o) (sym h.changes.4)
-      ∙ (ap (λ s. steps_undone (length rs) (with_it o.order o.values o.built s)) h.changes.3
-      ∙ (ap (λ b. steps_undone (length rs) (with_it o.order o.values b (steps_taken at rs older))) h.built
-      ∙ undone-all at rs older o.order o.values h.changes.7))
+      ap (λ k. steps_undone k o) (sym h.changes.6)
+      ∙ (ap (λ s. steps_undone (length rs) (with_it o.order o.values o.built s)) h.changes.5
+      ∙ (ap (λ x. steps_undone (length rs) (with_it x o.values o.built (steps_taken at rs older))) h.changes.4
+      ∙ (ap (λ b. steps_undone (length rs) (with_it (fs ++ gs) o.values b (steps_taken at rs older))) h.built
+      ∙ undone-all fs rs gs older o.values)))
 
   abbrev W : List BufferRow
   W = values_in o.values o.order
 
-  back-values : values_in o.values order ≡ with_rows at (values_in o.values rs) W
+  abbrev BF : List BufferRow
+  BF = values_in o.values fs
+
+  abbrev BR : List BufferRow
+  BR = values_in o.values rs
+
+  abbrev BG : List BufferRow
+  BG = values_in o.values gs
+
+  all-back : W ≡ BF ++ BG
+  all-back = ap (values_in o.values) h.changes.4 ∙ values-split o.values fs gs
+
+  len-BF : length BF ≡ at
+  len-BF = values-length o.values fs (below-split (length o.values) fs gs (subst (λ x. AllBelow (length o.values) x) h.changes.4 below)).0
+
+  back-values : values_in o.values (fs ++ (rs ++ gs)) ≡ with_rows at BR W
   back-values =
-      let low = h.changes.7 in
-      values-split o.values (take at o.order) (rs ++ drop at o.order)
-      ∙ (ap (λ front. front ++ values_in o.values (rs ++ drop at o.order)) (sym (values-take o.values o.order below at low))
-      ∙ ap (λ back. take at W ++ back) (values-split o.values rs (drop at o.order) ∙ ap (λ back. values_in o.values rs ++ back) (sym (values-drop o.values o.order below at low))))
+      let put : with_rows at BR (BF ++ BG) ≡ BF ++ (BR ++ BG) =
+      ap (λ front. front ++ (BR ++ drop at (BF ++ BG))) (take_at BF BG at len-BF) ∙ ap (λ back. BF ++ (BR ++ back)) (drop_at BF BG at len-BF) in
+      values-split o.values fs (rs ++ gs) ∙ (ap (λ x. BF ++ x) (values-split o.values rs gs) ∙ sym (ap (with_rows at BR) all-back ∙ put))
 
   pub back-seen : unkilled (seen_as switches o (Kill n ∷ kept)) ≡ Some (seen_as switches with_them kept)
   back-seen =
       let es = events_of o.values older kept in
-      let events : events_of o.values o.steps (Kill n ∷ kept) ≡ Killed at (values_in o.values rs) ∷ es = ap (λ s. events_of o.values s (Kill n ∷ kept)) h.changes.3 ∙ event-taken o.values at rs older n kept h.changes.4 h.changes.5 in
+      let events : events_of o.values o.steps (Kill n ∷ kept) ≡ Killed at BR ∷ es = ap (λ s. events_of o.values s (Kill n ∷ kept)) h.changes.5 ∙ event-taken o.values at rs older n kept h.changes.6 h.changes.7 in
       ap (λ e. unkilled (state switches W e)) events
-      ∙ (ap (λ v. Some (state switches (with_rows at (values_in o.values rs) v) es)) (sections-rows W h.root)
+      ∙ (ap (λ v. Some (state switches (with_rows at BR v) es)) (sections-rows W h.root)
       ∙ ap (λ v. Some (state switches v es)) (sym back-values))
 
   pub back-held : IsBuffer with_them kept room
   back-held =
-      let low = h.changes.7 in
-      let n_rows : length rs ≡ n = h.changes.4 in
-      let front : length (take at o.order) ≡ at = length-take at o.order low in
-      let whole : length o.order ≡ length (take at o.order ++ drop at o.order) = ap length (sym (take-append-drop at o.order)) in
-      let many : length order ≡ length o.order + n =
-      omega (arith, length-append (take at o.order) (rs ++ drop at o.order), length-append rs (drop at o.order), length-append (take at o.order) (drop at o.order)) in
-      let some : 0 < length (take at W) = omega (arith, ap length (values-take o.values o.order below at low), values-length o.values (take at o.order) (below-split (length o.values) (take at o.order) (drop at o.order) (subst (λ x. AllBelow (length o.values) x) (sym (take-append-drop at o.order)) below)).0, h.changes.6) in
-      let root : IsRootFirst (take at W ++ drop at W) = subst (λ v. IsRootFirst v) (sym (take-append-drop at W)) h.root in
+      let n_rows : length rs ≡ n = h.changes.6 in
+      let whole : length o.order ≡ length (fs ++ gs) = ap length h.changes.4 in
+      let many : length (fs ++ (rs ++ gs)) ≡ length o.order + n = omega (arith, length-append fs (rs ++ gs), length-append rs gs, length-append fs gs) in
+      let some : 0 < length BF = omega (arith, len-BF, h.changes.8) in
+      let root : IsRootFirst (BF ++ BG) = subst (λ v. IsRootFirst v) all-back h.root in
+      let new : values_in o.values (fs ++ (rs ++ gs)) ≡ BF ++ (BR ++ BG) = values-split o.values fs (rs ++ gs) ∙ ap (λ x. BF ++ x) (values-split o.values rs gs) in
       record {
         built = refl;
-        root = subst (λ v. IsRootFirst v) (sym back-values) (root-stays (take at W) (drop at W) (values_in o.values rs ++ drop at W) some root);
-        changes = subst (λ k. AreChanges k older kept) (sym many) h.changes.8;
+        root = subst (λ v. IsRootFirst v) (sym new) (root-stays BF BG (BR ++ BG) some root);
+        changes = h.changes.9;
+        below = below-taken (length o.values) at rs older (subst (λ s. AreOfRows (length o.values) s) h.changes.5 h.below);
         fits = omega (arith, h.fits);
       }

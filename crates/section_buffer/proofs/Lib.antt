@@ -7,3 +7,7 @@ pub mod TakeLemmas
 pub mod GatherLemmas
 pub mod PrintLemmas
 pub mod HideLemmas
+pub mod InsertLemmas
+pub mod BehindLemmas
+pub mod RelistLemmas
+pub mod BackLemmas

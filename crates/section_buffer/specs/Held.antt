@@ -1,16 +1,22 @@
 -- How rows in an order, and what is kept of the changes, hold a buffer.
-use Rattle.std.specs.Prelude.{◌≡◌, ℕ, ◌+◌, ◌<◌, ◌≤◌, zero, suc, List, [], ◌∷◌, ◌++◌, length, drop, Bool, true, Option, Some, None}
+use Rattle.std.specs.Prelude.{◌≡◌, ℕ, ◌+◌, ◌<◌, ◌≤◌, zero, suc, List, [], ◌∷◌, ◌++◌, length, drop, Bool, true, false, Option, Some, None, Result, Ok, Err}
 use Rattle.link_rows.specs.Values.{value_at}
-use Rattle.dired_text.specs.Paths.{Names}
+use Rattle.link_rows.specs.declared.rows.RowId.{RowId}
+use Rattle.std.specs.BTreeMap.{insert_entry}
+use Rattle.std.specs.List.Sorted.{IsStrictlySortedBy}
+use Rattle.dired_text.specs.Paths.{Names, path_cmp}
+use Rattle.dired_text.specs.declared.text.Memory.{Memory as memory}
+use Rattle.listing_text.specs.declared.line.Line.{Line as line_type}
 use Rattle.listing_text.specs.declared.switches.Switches.{Switches}
 use Rattle.section_rows.specs.declared.row.BufferRow.{BufferRow}
 use Rattle.section_rows.specs.declared.row.BufferRow.TheVariants.{Head, Line}
-use Rattle.section_rows.specs.Orders.{Ordered, Step, Taken, Put, undone, values_in}
+use Rattle.section_rows.specs.Orders.{Ordered, Step, Taken, Put, no_rows, run, undone, values_in}
 use Rattle.section_buffer.specs.declared.kept.Kept.{Kept}
 use Rattle.section_buffer.specs.declared.kept.Kept.TheVariants.{Kill, Insertion}
 use Rattle.section_buffer.specs.declared.section.Section.{Section}
-use Rattle.section_buffer.specs.Rows.{lines_of, sections_of}
-use Rattle.section_buffer.specs.Buffers.{BufferState, Event, Inserted, Killed}
+use Rattle.section_buffer.specs.Rows.{lines_of, rows_of, sections_of}
+use Rattle.section_buffer.specs.Relisting.{Moves, Place, dir_after, dirs_of}
+use Rattle.section_buffer.specs.Buffers.{BufferState, Event, Inserted, Killed, later_place, rows_of_section}
 
 -- the place of the row that the last step took out
 abbrev pub place_in : List Step → ℕ
@@ -37,10 +43,16 @@ dir_put values [] = []
 dir_put values (Taken at r ∷ steps) = []
 dir_put values (Put first count ∷ steps) = dir_in (value_at values first)
 
+-- and its rows
+abbrev pub count_put : List Step → ℕ
+count_put [] = 0
+count_put (Taken at r ∷ steps) = 0
+count_put (Put first count ∷ steps) = count
+
 abbrev pub events_of : List BufferRow → List Step → List Kept → List Event
 events_of values steps [] = []
 events_of values steps (Kill n ∷ kept) = Killed (place_in steps) (taken_values values n steps) ∷ events_of values (drop n steps) kept
-events_of values steps (Insertion ∷ kept) = Inserted (dir_put values steps) ∷ events_of values (drop 1 steps) kept
+events_of values steps (Insertion at head ∷ kept) = Inserted at (count_put steps) (dir_put values steps) ∷ events_of values (drop 1 steps) kept
 
 abbrev pub seen_as : Switches → Ordered → List Kept → BufferState
 seen_as switches o kept = record { switches = switches; sections = sections_of (values_in o.values o.order); events = events_of o.values o.steps kept }
@@ -55,19 +67,27 @@ abbrev pub steps_undone : ℕ → Ordered → Ordered
 steps_undone zero o = o
 steps_undone (suc n) o = undone (steps_undone n o)
 
--- The last steps on so many rows are these changes. No change is of the first row.
-abbrev pub AreChanges : ℕ → List Step → List Kept → Type 0
-AreChanges many steps [] = Unit {0}
-AreChanges many steps (Kill n ∷ kept) =
-    (at : ℕ) × (rows : List ℕ) × (older : List Step)
-    × (steps ≡ steps_taken at rows older) × (length rows ≡ n) × (0 < n) × (0 < at) × (at ≤ many) × AreChanges (many + n) older kept
-AreChanges many steps (Insertion ∷ kept) = ⊥
+-- The last steps, which led to this order, are these changes. No change is of the first row.
+abbrev pub AreChanges : List ℕ → List Step → List Kept → Type 0
+AreChanges order steps [] = Unit {0}
+AreChanges order steps (Kill n ∷ kept) =
+    (fs : List ℕ) × (rows : List ℕ) × (gs : List ℕ) × (older : List Step)
+    × (order ≡ fs ++ gs) × (steps ≡ steps_taken (length fs) rows older) × (length rows ≡ n) × (0 < n) × (0 < length fs) × AreChanges (fs ++ (rows ++ gs)) older kept
+AreChanges order steps (Insertion at head ∷ kept) =
+    (fs : List ℕ) × (count : ℕ) × (gs : List ℕ) × (older : List Step)
+    × (order ≡ fs ++ (run head.0 count ++ gs)) × (steps ≡ Put head.0 count ∷ older) × (length fs ≡ at) × (0 < at) × AreChanges (fs ++ gs) older kept
+
+-- these steps are of so many rows
+abbrev pub AreOfRows : ℕ → List Step → Type 0
+AreOfRows n [] = Unit {0}
+AreOfRows n (Taken at r ∷ steps) = (r < n) × AreOfRows n steps
+AreOfRows n (Put first count ∷ steps) = (first < n) × AreOfRows n steps
 
 -- how many rows were taken out, and how many sections put in
 abbrev pub changes_in : List Kept → ℕ
 changes_in [] = 0
 changes_in (Kill n ∷ kept) = n + changes_in kept
-changes_in (Insertion ∷ kept) = 1 + changes_in kept
+changes_in (Insertion at head ∷ kept) = 1 + changes_in kept
 
 -- the first row is the head of the root
 abbrev pub IsRootFirst : List BufferRow → Type 0
@@ -80,7 +100,8 @@ IsRootFirst (Line line ∷ rows) = ⊥
 pub record IsBuffer (o : Ordered) (kept : List Kept) (room : ℕ) : Type 0 where
   pub built : o.built ≡ 0
   pub root : IsRootFirst (values_in o.values o.order)
-  pub changes : AreChanges (length o.order) o.steps kept
+  pub changes : AreChanges o.order o.steps kept
+  pub below : AreOfRows (length o.values) o.steps
   pub fits : changes_in kept + length o.order ≤ room
 
 -- Of rows in this order the one that stands at this place was found, or none where there is no such place.
@@ -127,3 +148,40 @@ pub record SectionTaken (old : Ordered) (r many : ℕ) (new : Ordered) : Type 0 
 abbrev pub first_section : BufferRow → List BufferRow → List Section
 first_section (Head dir hidden) rows = record { dir = dir; hidden = hidden; lines = lines_of rows } ∷ []
 first_section (Line line) rows = []
+
+-- The row a is the one behind which the section of this directory is put, as the n-th row from the first on.
+abbrev pub IsBehind : Ordered → Names → Option ℕ → ℕ → Type 0
+IsBehind o dir None n = ⊥
+IsBehind o dir (Some a) n =
+    (fs : List ℕ) × (gs : List ℕ) × (o.order ≡ fs ++ a ∷ gs) × (length (fs ++ a ∷ []) ≡ n) × (later_place dir (values_in o.values o.order) ≡ n)
+
+-- with these rows made, which are to be put in
+abbrev pub with_made : List BufferRow → Ordered → Ordered
+with_made rows o = record { order = o.order; built = length rows + o.built; values = o.values ++ rows; steps = o.steps }
+
+-- These rows are made, the first with the number that is answered, or after a refusal some rows.
+abbrev pub Makes : List BufferRow → Result RowId memory → Ordered → Ordered → Type 0
+Makes rows (Ok head) old new = (head.0 ≡ length old.values) × (new ≡ with_made rows old)
+Makes rows (Err refused) old new = (some : List BufferRow) × (new ≡ with_made some old)
+
+-- The rows of a section of this place are made, with lines as they are to be.
+abbrev pub MakesSection : (List line_type → Type 0) → Place → Ordered → Ordered → Type 0
+MakesSection Are place old new = (lines : List line_type) × Are lines × (new ≡ with_made (rows_of_section place.0 place.1 lines) old)
+
+-- Where a directory stands, the rows of a section of this place are made; elsewhere nothing is, and the place isn't the root.
+abbrev pub ListsPlace : Bool → (List line_type → Type 0) → Place → Ordered → Ordered → Type 0
+ListsPlace true Are place old new = MakesSection Are place old new
+ListsPlace false Are place old new = (place.0 ≡ [] → ⊥) × (new ≡ old)
+
+-- The rows of sections as they are to be are made, and no others. They are in path order, the root's first.
+pub record AreRowsOf (Are : List Section → Type 0) (rows : Ordered) : Type 0 where
+  pub sections : List Section
+  pub are : Are sections
+  pub root : IsRootFirst (rows_of sections)
+  pub in_order : IsStrictlySortedBy path_cmp (dirs_of sections)
+  pub made : rows ≡ with_made (rows_of sections) no_rows
+
+-- these places, and that of the section of a head
+abbrev pub with_place : Moves → BufferRow → List Place → List Place
+with_place moved (Head dir hidden) places = insert_entry path_cmp places (dir_after moved dir) hidden
+with_place moved (Line line) places = places

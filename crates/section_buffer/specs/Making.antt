@@ -1,15 +1,20 @@
 -- Buffers as a tree gives them.
-use Rattle.std.specs.Prelude.{◌≡◌, List, [], Option, Some, None}
+use Rattle.std.specs.Prelude.{◌≡◌, Bool, false, List, [], Option, Some, None, Result, Ok, Err, if◌then◌else◌}
+use Rattle.std.specs.List.{list_any}
 use Rattle.dired_text.specs.Paths.{Names}
 use Rattle.listing_text.specs.declared.line.Line.{Line}
 use Rattle.listing_text.specs.declared.switches.Switches.{Switches}
 use Rattle.subdir_list.specs.Listings.{IsListed}
 use Rattle.tree_core.specs.FileTree.{FileTree}
+use Rattle.tree_core.specs.declared.node.Node.{Node}
+use Rattle.tree_core.specs.declared.node.Node.TheVariants.{Dir, Link, File}
 use Rattle.tree_core.specs.declared.meta.Meta.{Meta}
 use Rattle.tree_core.specs.declared.node.CallName.{CallName}
 use Rattle.section_buffer.specs.declared.ends.BufferEnd.{BufferEnd}
 use Rattle.section_buffer.specs.declared.ends.BufferEnd.TheVariants.{NoSuchDir, NotDirectory, AlreadyThere, NotThere, TreeFault, Memory}
-use Rattle.section_buffer.specs.Buffers.{BufferState, of_root}
+use Rattle.section_buffer.specs.declared.section.Section.{Section}
+use Rattle.section_buffer.specs.Buffers.{BufferState, inserted, of_root}
+use Rattle.section_buffer.specs.Places.{same_names}
 
 -- a buffer of the root's section, shown, with the lines that the tree gives of the root
 abbrev pub IsNew : Switches → FileTree → (Names → Meta) → BufferState → Type 0
@@ -36,3 +41,34 @@ IsFaultOrMemory AlreadyThere = ⊥
 IsFaultOrMemory NotThere = ⊥
 IsFaultOrMemory (TreeFault call) = Unit {0}
 IsFaultOrMemory Memory = Unit {0}
+
+-- ---- a section that is put in
+
+-- whether one of these sections is of this directory
+abbrev pub is_among_sections : Names → List Section → Bool
+is_among_sections dir sections = list_any (λ (section : Section). same_names section.dir dir) sections
+
+-- why no section is put in, by what stands at its directory and whether it is there already, or None
+abbrev pub insert_refusal : Option Node → Bool → Option BufferEnd
+insert_refusal None there = Some NoSuchDir
+insert_refusal (Some (Link target)) there = Some NotDirectory
+insert_refusal (Some (File number bytes mode)) there = Some NotDirectory
+insert_refusal (Some (Dir mode)) there = if there then Some AlreadyThere else None
+
+-- A call is refused so where there is a refusal, but that a call of the tree may fail first; else it is done, or memory is
+-- wanted.
+abbrev pub EndsAs : Option BufferEnd → Result (Unit {0}) BufferEnd → Type 0
+EndsAs refusal (Ok done) = refusal ≡ None
+EndsAs refusal (Err NoSuchDir) = refusal ≡ Some NoSuchDir
+EndsAs refusal (Err NotDirectory) = refusal ≡ Some NotDirectory
+EndsAs refusal (Err AlreadyThere) = refusal ≡ Some AlreadyThere
+EndsAs refusal (Err NotThere) = ⊥
+EndsAs refusal (Err (TreeFault call)) = Unit {0}
+EndsAs refusal (Err Memory) = refusal ≡ None
+
+-- The section of this directory wasn't there and was put in, shown, with lines as they are to be.
+pub record IsPutIn (Are : List Line → Type 0) (dir : Names) (old new : BufferState) : Type 0 where
+  pub lines : List Line
+  pub are : Are lines
+  pub was_not_there : is_among_sections dir old.sections ≡ false
+  pub is : new ≡ inserted dir lines old

@@ -2,19 +2,27 @@
 ghost use Rattle.std.specs.Prelude.{◌≡◌, ◌<◌, ◌≤◌, ◌+◌, ◌++◌, ◌∷◌, [], true, false, IfErr, IfOk, OnErr, OnOk, length, reverse, vec_len, vec_capacity};
 ghost use Rattle.link_rows.specs.Values.{HasValues};
 ghost use Rattle.mark_table.specs.PathMarks.{is_among};
+ghost use Rattle.std.specs.FinMap.{get};
+ghost use Rattle.subdir_list.specs.Listings.{IsListed};
 ghost use Rattle.tree_core.specs.History.{current_tree};
 ghost use Rattle.tree_core.specs.Looks.{OnlyLooked, failed_in, faults_with};
-ghost use Rattle.section_buffer.specs.Making.{IsFaultOrMemory, IsNew, IsOfRoot, failed_call};
+ghost use Rattle.section_rows.specs.Orders.{no_rows};
+ghost use Rattle.section_buffer.specs.Held.{IsRootFirst, with_made};
+ghost use Rattle.section_buffer.specs.Making.{EndsAs, IsFaultOrMemory, IsNew, IsOfRoot, IsPutIn, failed_call, insert_refusal, is_among_sections};
 ghost use Rattle.section_buffer.specs.Printed.{PrintsAs, faults_behind, printed};
-ghost use Rattle.section_buffer.specs.Rows.{rows_of};
+ghost use Rattle.section_buffer.specs.Relisting.{AreListed, IsRelisted, RootStays, places_after, standing};
+ghost use Rattle.section_buffer.specs.Rows.{rows_of, sections_of};
 ghost use Rattle.section_buffer.specs.Sections.{hidden_at};
-ghost use Rattle.section_buffer.specs.Buffers.{KillsComeBack, Leads, all_lines, line_killed, of_root, section_killed, turned, unkilled};
+ghost use Rattle.section_buffer.specs.Buffers.{InsertionsComeBack, KillsComeBack, Leads, all_lines, inserted, line_killed, of_root, of_sections, section_killed, turned, uninserted, unkilled};
 
-use crate::finding::{head_row, line_row};
+use crate::finding::{head_row, is_of, line_row, place_behind};
 use crate::gathering::copy_sections;
 use crate::hiding::section_hidden;
 use crate::kept::Kept;
+use crate::looking::{kind_at, listed_lines};
 use crate::printing::text_of;
+use crate::putting::{changes_of, make_rows};
+use crate::relisting::{list_places, moved_places};
 use crate::taking::{take_section, undo_kill};
 use crate::{BufferEnd, PrintEnd, Section};
 use dired_text::{Bytes, Memory, Path, Sink};
@@ -24,8 +32,7 @@ use mark_table::Marks;
 use section_rows::{BufferRow, UndoRows};
 use std::alloc::Global;
 use std::marker::Model;
-use subdir_list::{ListEnd, list_dir};
-use tree_core::Tree;
+use tree_core::{Kind, Tree};
 
 // Keeps a change, for which there is room.
 fn keep(kept: &mut Vec<Kept>, change: Kept)
@@ -73,15 +80,8 @@ impl Buffer {
             faults_with (failed_in failed_call result) (T.faults tree.old) }
         ensures unchanged { T.changes tree.new ≡ T.changes tree.old }
     {
-        let lines = match list_dir(alloc, tree, &Path::root(alloc), &switches) {
-            Ok(lines) => lines,
-            Err(ListEnd::TreeFault(call)) => return Err(BufferEnd::TreeFault(call)),
-            Err(_) => return Err(BufferEnd::Memory),
-        };
-        match Self::with_lines(alloc, switches, lines) {
-            Ok(buffer) => Ok(buffer),
-            Err(_) => Err(BufferEnd::Memory),
-        }
+        let lines = listed_lines(alloc, tree, &Path::root(alloc), &switches)?;
+        Ok(Self::with_lines(alloc, switches, lines)?)
     }
 
     /// A buffer of these lines, in one section of the root that is shown. Its switches are those of `-Al`.
@@ -104,18 +104,19 @@ impl Buffer {
     fn with_lines(alloc: Global, switches: Switches, lines: Vec<Line>) -> Result<Self, Memory>
         ensures { IfOk result (λ b. b ≡ of_root switches lines.items) }
     {
-        let root = BufferRow::Head {
-            dir: Path::root(alloc),
-            hidden: false,
-        };
         let mut rows = UndoRows::new(alloc)?;
-        rows.push(root)?;
-        for line in lines {
-            rows.push(BufferRow::Line(line))?;
-        }
+        make_rows(&mut rows, Path::root(alloc), false, lines)?;
+        Self::of_rows(alloc, switches, rows)
+    }
+
+    // A buffer of rows that were made, the head of the root first.
+    fn of_rows(alloc: Global, switches: Switches, mut rows: UndoRows) -> Result<Self, Memory>
+        requires made { rows ≡ with_made rows.values no_rows }
+        requires root { IsRootFirst rows.values }
+        ensures { IfOk result (λ b. b ≡ of_sections switches (sections_of rows.values)) }
+    {
         rows.put(None);
         rows.forget();
-        rows.rows_differ();
         let kept = Vec::with_capacity(alloc, rows.len())?;
         Ok(Buffer {
             rows,
@@ -258,6 +259,140 @@ impl Buffer {
         Ok(())
     }
 
+    /// Puts the section of a directory in before those of later directories, shown, with the lines that a tree gives of it.
+    ///
+    /// # Errors
+    /// `NoSuchDir` where nothing stands at the directory, `NotDirectory` where something else does, `AlreadyThere` where
+    /// the section is there; `TreeFault` names the call that failed; want of memory. The buffer is then unchanged.
+    pub fn insert<T: Tree>(&mut self, tree: &mut T, dir: &Path) -> Result<(), BufferEnd>
+        ensures put { OnOk result (IsPutIn
+            (λ lines. T.Tells → IsListed self.old.switches (current_tree (T.history tree.old))
+            (T.fields tree.old) dir.now lines) dir.now self.old self.new) }
+        ensures end { T.Tells → EndsAs
+            (insert_refusal (get (current_tree (T.history tree.old)) dir.now)
+            (is_among_sections dir.now self.old.sections)) result }
+        ensures kept { OnErr result (self.new ≡ self.old) }
+        ensures looked { T.Tells → OnlyLooked (failed_in failed_call result) (T.history tree.old) (T.history tree.new)
+            (T.fields tree.old) (T.fields tree.new) (T.before_failed tree.old) (T.before_failed tree.new) }
+        ensures faults { T.faults tree.new ≡
+            faults_with (failed_in failed_call result) (T.faults tree.old) }
+        ensures unchanged { T.changes tree.new ≡ T.changes tree.old }
+    {
+        match kind_at(tree, dir)? {
+            None => return Err(BufferEnd::NoSuchDir),
+            Some(Kind::Dir) => {}
+            Some(_) => return Err(BufferEnd::NotDirectory),
+        }
+        if head_row(&self.rows, dir).is_some() {
+            return Err(BufferEnd::AlreadyThere);
+        }
+        let alloc = *self.kept.allocator();
+        let lines = listed_lines(alloc, tree, dir, &self.switches)?;
+        self.put_section(dir.copy()?, lines)?;
+        Ok(())
+    }
+
+    // Puts the section of a directory in, shown, with these lines.
+    fn put_section(&mut self, dir: Path, lines: Vec<Line>) -> Result<(), Memory>
+        ensures ok { OnOk result (self.new ≡ inserted dir lines.items self.old) }
+        ensures err { OnErr result (self.new ≡ self.old) }
+    {
+        // Room to kill each row, and for this insertion.
+        let held = changes_of(&self.kept) + self.rows.len() + lines.len();
+        let Some(room) = held.checked_add(2) else {
+            return Err(Memory);
+        };
+        if self.kept.reserve(room - self.kept.len()).is_err() {
+            return Err(Memory);
+        }
+        self.rows.rows_differ();
+        let (after, count) = place_behind(&self.rows, &dir);
+        let Ok(head) = make_rows(&mut self.rows, dir, false, lines) else {
+            self.rows.give_up();
+            return Err(Memory);
+        };
+        self.rows.put(after);
+        keep(&mut self.kept, Kept::Insertion(count, head));
+        Ok(())
+    }
+
+    /// Takes the section out that was put in last.
+    ///
+    /// # Errors
+    /// `NotThere` where a kill or another insertion is still to be undone first, or nothing was put in.
+    pub fn uninsert(&mut self, dir: &Path) -> Result<(), BufferEnd>
+        ensures { Leads (uninserted dir.now self.old) result self.old self.new }
+    {
+        self.rows.rows_differ();
+        let Some(Kept::Insertion(_, head)) = self.kept.last().copied() else {
+            return Err(BufferEnd::NotThere);
+        };
+        if !is_of(self.rows.get(head), dir) {
+            return Err(BufferEnd::NotThere);
+        }
+        self.rows.undo();
+        let _ = self.kept.pop();
+        Ok(())
+    }
+
+    /// Lists every section again, as [`revert_with`](Self::revert_with) does, with the switches that the buffer has.
+    ///
+    /// # Errors
+    /// `TreeFault` names the call that failed; want of memory. The buffer is then unchanged.
+    pub fn revert<T: Tree>(&mut self, tree: &mut T, moved: &[(Path, Path)]) -> Result<(), BufferEnd>
+        requires root { RootStays moved.now }
+        ensures listed { T.Tells → OnOk result (AreListed self.old.switches
+            (current_tree (T.history tree.old)) (T.fields tree.old)
+            (standing (current_tree (T.history tree.old)) (places_after moved.now self.old.sections))
+            self.new.sections) }
+        ensures relisted { OnOk result (IsRelisted self.old.switches self.new) }
+        ensures end { IfErr result IsFaultOrMemory }
+        ensures kept { OnErr result (self.new ≡ self.old) }
+        ensures looked { T.Tells → OnlyLooked (failed_in failed_call result) (T.history tree.old) (T.history tree.new)
+            (T.fields tree.old) (T.fields tree.new) (T.before_failed tree.old) (T.before_failed tree.new) }
+        ensures faults { T.faults tree.new ≡
+            faults_with (failed_in failed_call result) (T.faults tree.old) }
+        ensures unchanged { T.changes tree.new ≡ T.changes tree.old }
+    {
+        let switches = self.switches;
+        self.revert_with(tree, switches, moved)
+    }
+
+    /// Lists every section again with these switches, in path order and hidden exactly where it was hidden. Each pair is
+    /// where a directory stood and where it stands now; the first that is of a section's directory says where that is, and
+    /// the others stay. Of two sections that come to one directory the later counts. A section where no directory stands
+    /// any more is dropped, and nothing can be undone any more (GNU Emacs Manual, "Dired Updating").
+    ///
+    /// # Errors
+    /// `TreeFault` names the call that failed; want of memory. The buffer is then unchanged.
+    pub fn revert_with<T: Tree>(
+        &mut self,
+        tree: &mut T,
+        switches: Switches,
+        moved: &[(Path, Path)],
+    ) -> Result<(), BufferEnd>
+        requires root { RootStays moved.now }
+        ensures listed { T.Tells → OnOk result (AreListed switches
+            (current_tree (T.history tree.old)) (T.fields tree.old)
+            (standing (current_tree (T.history tree.old)) (places_after moved.now self.old.sections))
+            self.new.sections) }
+        ensures relisted { OnOk result (IsRelisted switches self.new) }
+        ensures end { IfErr result IsFaultOrMemory }
+        ensures kept { OnErr result (self.new ≡ self.old) }
+        ensures looked { T.Tells → OnlyLooked (failed_in failed_call result) (T.history tree.old) (T.history tree.new)
+            (T.fields tree.old) (T.fields tree.new) (T.before_failed tree.old) (T.before_failed tree.new) }
+        ensures faults { T.faults tree.new ≡
+            faults_with (failed_in failed_call result) (T.faults tree.old) }
+        ensures unchanged { T.changes tree.new ≡ T.changes tree.old }
+    {
+        let alloc = *self.kept.allocator();
+        let places = moved_places(alloc, &self.rows, moved)?;
+        let rows = list_places(alloc, tree, &switches, &places)?;
+        let again = Self::of_rows(alloc, switches, rows)?;
+        *self = again;
+        Ok(())
+    }
+
     /// Puts the rows of the last kill back where they stood.
     ///
     /// # Errors
@@ -280,6 +415,13 @@ impl Buffer {
 /// After any kills of lines and of sections, as many [`unkill`](Buffer::unkill) give back the buffer from before.
 pub fn kills_come_back(buffer: &Buffer)
     ensures { KillsComeBack buffer.now }
+{
+    let _kept = &buffer.kept;
+}
+
+/// [`uninsert`](Buffer::uninsert) behind [`insert`](Buffer::insert) leaves the buffer from before, whatever lines were put in.
+pub fn insertions_come_back(buffer: &Buffer)
+    ensures { InsertionsComeBack buffer.now }
 {
     let _kept = &buffer.kept;
 }

@@ -5,7 +5,8 @@ ghost use Rattle.dired_text.specs.Paths.{slash};
 ghost use Rattle.dired_text.specs.Resolve.{components};
 ghost use Rattle.section_rows.specs.Orders.{values_in};
 ghost use Rattle.section_buffer.specs.Places.{head_place, is_head_of, is_line_of as is_line_of_path, line_place, same_names};
-ghost use Rattle.section_buffer.specs.Held.{FoundAt, dir_in, head_value, hidden_in};
+ghost use Rattle.section_buffer.specs.Buffers.{is_later_head as is_head_later};
+ghost use Rattle.section_buffer.specs.Held.{IsBehind, IsRootFirst, FoundAt, dir_in, head_value, hidden_in};
 
 use dired_text::{Name, Path, rest_below};
 use link_rows::RowId;
@@ -70,6 +71,16 @@ fn is_head(row: &BufferRow, dir: &Path) -> bool
     }
 }
 
+// Whether a row is of the section of this directory; a line counts as one of the root's.
+pub(crate) fn is_of(row: &BufferRow, dir: &Path) -> bool
+    ensures { result ≡ same_names (dir_in (row.now ∷ [])) dir.now }
+{
+    match row {
+        BufferRow::Head { dir: of, .. } => of == dir,
+        BufferRow::Line(_) => dir.names().is_empty(),
+    }
+}
+
 // The head of this directory's section.
 pub(crate) fn head_row(rows: &UndoRows, dir: &Path) -> Option<RowId>
     ensures { FoundAt rows.now.order
@@ -108,4 +119,36 @@ pub(crate) fn line_row(rows: &UndoRows, path: &Path) -> Option<RowId>
         at = rows.next(row);
     }
     None
+}
+
+// Whether a row is the head of a directory behind this one in the order of paths.
+fn is_later_head(row: &BufferRow, dir: &Path) -> bool
+    ensures { result ≡ is_head_later dir.now row.now }
+{
+    match row {
+        BufferRow::Head { dir: of, .. } => dir < of,
+        BufferRow::Line(_) => false,
+    }
+}
+
+// The row behind which the section of this directory is put, the last before the heads of later directories, and how
+// many rows stand up to it.
+pub(crate) fn place_behind(rows: &UndoRows, dir: &Path) -> (Option<RowId>, usize)
+    requires { IsRootFirst (values_in rows.now.values rows.now.order) }
+    ensures { IsBehind rows.now dir.now (option_map (λ row. row.0) result.0) result.1 }
+{
+    rows.rows_differ();
+    let _most = rows.len();
+    let mut last = None;
+    let mut count = 0;
+    let mut at = rows.first();
+    while let Some(row) = at {
+        if is_later_head(rows.get(row), dir) {
+            return (last, count);
+        }
+        last = Some(row);
+        count += 1;
+        at = rows.next(row);
+    }
+    (last, count)
 }
