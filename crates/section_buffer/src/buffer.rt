@@ -74,8 +74,9 @@ impl Buffer {
             (λ b. IsNew switches (current_tree (T.history tree.old)) (T.fields tree.old) b) }
         ensures root { IfOk result (λ b. IsOfRoot switches b) }
         ensures end { IfErr result IsFaultOrMemory }
-        ensures looked { T.Tells → OnlyLooked (failed_in failed_call result) (T.history tree.old) (T.history tree.new)
-            (T.fields tree.old) (T.fields tree.new) (T.before_failed tree.old) (T.before_failed tree.new) }
+        ensures looked { T.Tells → OnlyLooked (failed_in failed_call result)
+            (T.history tree.old) (T.history tree.new) (T.fields tree.old) (T.fields tree.new)
+            (T.before_failed tree.old) (T.before_failed tree.new) }
         ensures faults { T.faults tree.new ≡
             faults_with (failed_in failed_call result) (T.faults tree.old) }
         ensures unchanged { T.changes tree.new ≡ T.changes tree.old }
@@ -272,8 +273,9 @@ impl Buffer {
             (insert_refusal (get (current_tree (T.history tree.old)) dir.now)
             (is_among_sections dir.now self.old.sections)) result }
         ensures kept { OnErr result (self.new ≡ self.old) }
-        ensures looked { T.Tells → OnlyLooked (failed_in failed_call result) (T.history tree.old) (T.history tree.new)
-            (T.fields tree.old) (T.fields tree.new) (T.before_failed tree.old) (T.before_failed tree.new) }
+        ensures looked { T.Tells → OnlyLooked (failed_in failed_call result)
+            (T.history tree.old) (T.history tree.new) (T.fields tree.old) (T.fields tree.new)
+            (T.before_failed tree.old) (T.before_failed tree.new) }
         ensures faults { T.faults tree.new ≡
             faults_with (failed_in failed_call result) (T.faults tree.old) }
         ensures unchanged { T.changes tree.new ≡ T.changes tree.old }
@@ -343,13 +345,15 @@ impl Buffer {
         requires root { RootStays moved.now }
         ensures listed { T.Tells → OnOk result (AreListed self.old.switches
             (current_tree (T.history tree.old)) (T.fields tree.old)
-            (standing (current_tree (T.history tree.old)) (places_after moved.now self.old.sections))
+            (standing (current_tree (T.history tree.old))
+            (places_after moved.now self.old.sections))
             self.new.sections) }
         ensures relisted { OnOk result (IsRelisted self.old.switches self.new) }
         ensures end { IfErr result IsFaultOrMemory }
         ensures kept { OnErr result (self.new ≡ self.old) }
-        ensures looked { T.Tells → OnlyLooked (failed_in failed_call result) (T.history tree.old) (T.history tree.new)
-            (T.fields tree.old) (T.fields tree.new) (T.before_failed tree.old) (T.before_failed tree.new) }
+        ensures looked { T.Tells → OnlyLooked (failed_in failed_call result)
+            (T.history tree.old) (T.history tree.new) (T.fields tree.old) (T.fields tree.new)
+            (T.before_failed tree.old) (T.before_failed tree.new) }
         ensures faults { T.faults tree.new ≡
             faults_with (failed_in failed_call result) (T.faults tree.old) }
         ensures unchanged { T.changes tree.new ≡ T.changes tree.old }
@@ -374,13 +378,15 @@ impl Buffer {
         requires root { RootStays moved.now }
         ensures listed { T.Tells → OnOk result (AreListed switches
             (current_tree (T.history tree.old)) (T.fields tree.old)
-            (standing (current_tree (T.history tree.old)) (places_after moved.now self.old.sections))
+            (standing (current_tree (T.history tree.old))
+            (places_after moved.now self.old.sections))
             self.new.sections) }
         ensures relisted { OnOk result (IsRelisted switches self.new) }
         ensures end { IfErr result IsFaultOrMemory }
         ensures kept { OnErr result (self.new ≡ self.old) }
-        ensures looked { T.Tells → OnlyLooked (failed_in failed_call result) (T.history tree.old) (T.history tree.new)
-            (T.fields tree.old) (T.fields tree.new) (T.before_failed tree.old) (T.before_failed tree.new) }
+        ensures looked { T.Tells → OnlyLooked (failed_in failed_call result)
+            (T.history tree.old) (T.history tree.new) (T.fields tree.old) (T.fields tree.new)
+            (T.before_failed tree.old) (T.before_failed tree.new) }
         ensures faults { T.faults tree.new ≡
             faults_with (failed_in failed_call result) (T.faults tree.old) }
         ensures unchanged { T.changes tree.new ≡ T.changes tree.old }

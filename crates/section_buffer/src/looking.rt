@@ -20,8 +20,9 @@ pub(crate) fn kind_at<T: Tree>(tree: &mut T, path: &Path) -> Result<Option<Kind>
     ensures kind { T.Tells → IfOk result (λ kind. kind ≡
         option_map kind_of (get (current_tree (T.history tree.old)) path.now)) }
     ensures end { IfErr result (λ end. end ≡ BufferEnd.TreeFault CallName.Kind) }
-    ensures looked { T.Tells → OnlyLooked (failed_in failed_call result) (T.history tree.old) (T.history tree.new)
-        (T.fields tree.old) (T.fields tree.new) (T.before_failed tree.old) (T.before_failed tree.new) }
+    ensures looked { T.Tells → OnlyLooked (failed_in failed_call result)
+        (T.history tree.old) (T.history tree.new) (T.fields tree.old) (T.fields tree.new)
+        (T.before_failed tree.old) (T.before_failed tree.new) }
     ensures faults { T.faults tree.new ≡
         faults_with (failed_in failed_call result) (T.faults tree.old) }
     ensures unchanged { T.changes tree.new ≡ T.changes tree.old }
@@ -38,8 +39,9 @@ pub(crate) fn is_dir<T: Tree>(tree: &mut T, path: &Path) -> Result<bool, BufferE
         is_dir_node (get (current_tree (T.history tree.old)) path.now)) }
     ensures root { path.now ≡ [] → IfOk result (λ dir. dir ≡ true) }
     ensures end { IfErr result (λ end. end ≡ BufferEnd.TreeFault CallName.Kind) }
-    ensures looked { T.Tells → OnlyLooked (failed_in failed_call result) (T.history tree.old) (T.history tree.new)
-        (T.fields tree.old) (T.fields tree.new) (T.before_failed tree.old) (T.before_failed tree.new) }
+    ensures looked { T.Tells → OnlyLooked (failed_in failed_call result)
+        (T.history tree.old) (T.history tree.new) (T.fields tree.old) (T.fields tree.new)
+        (T.before_failed tree.old) (T.before_failed tree.new) }
     ensures faults { T.faults tree.new ≡
         faults_with (failed_in failed_call result) (T.faults tree.old) }
     ensures unchanged { T.changes tree.new ≡ T.changes tree.old }
@@ -63,8 +65,9 @@ pub(crate) fn listed_lines<T: Tree>(
         IsListed switches.now (current_tree (T.history tree.old))
         (T.fields tree.old) dir.now lines.items) }
     ensures end { IfErr result IsFaultOrMemory }
-    ensures looked { T.Tells → OnlyLooked (failed_in failed_call result) (T.history tree.old) (T.history tree.new)
-        (T.fields tree.old) (T.fields tree.new) (T.before_failed tree.old) (T.before_failed tree.new) }
+    ensures looked { T.Tells → OnlyLooked (failed_in failed_call result)
+        (T.history tree.old) (T.history tree.new) (T.fields tree.old) (T.fields tree.new)
+        (T.before_failed tree.old) (T.before_failed tree.new) }
     ensures faults { T.faults tree.new ≡
         faults_with (failed_in failed_call result) (T.faults tree.old) }
     ensures unchanged { T.changes tree.new ≡ T.changes tree.old }

@@ -98,8 +98,9 @@ fn list_place<T: Tree>(
         (T.fields tree.old) place.now.0 lines)
         place.now rows.old rows.new) }
     ensures end { IfErr result IsFaultOrMemory }
-    ensures looked { T.Tells → OnlyLooked (failed_in failed_call result) (T.history tree.old) (T.history tree.new)
-        (T.fields tree.old) (T.fields tree.new) (T.before_failed tree.old) (T.before_failed tree.new) }
+    ensures looked { T.Tells → OnlyLooked (failed_in failed_call result)
+        (T.history tree.old) (T.history tree.new) (T.fields tree.old) (T.fields tree.new)
+        (T.before_failed tree.old) (T.before_failed tree.new) }
     ensures faults { T.faults tree.new ≡
         faults_with (failed_in failed_call result) (T.faults tree.old) }
     ensures unchanged { T.changes tree.new ≡ T.changes tree.old }
@@ -123,11 +124,13 @@ pub(crate) fn list_places<T: Tree>(
     requires root { IsRootPlace places.now }
     requires sorted { IsStrictlySortedBy path_cmp (keys_of places.now) }
     ensures listed { IfOk result (λ rows. AreRowsOf
-        (λ sections. T.Tells → AreListed switches.now (current_tree (T.history tree.old)) (T.fields tree.old)
+        (λ sections. T.Tells → AreListed switches.now (current_tree (T.history tree.old))
+        (T.fields tree.old)
         (standing (current_tree (T.history tree.old)) places.now) sections) rows) }
     ensures end { IfErr result IsFaultOrMemory }
-    ensures looked { T.Tells → OnlyLooked (failed_in failed_call result) (T.history tree.old) (T.history tree.new)
-        (T.fields tree.old) (T.fields tree.new) (T.before_failed tree.old) (T.before_failed tree.new) }
+    ensures looked { T.Tells → OnlyLooked (failed_in failed_call result)
+        (T.history tree.old) (T.history tree.new) (T.fields tree.old) (T.fields tree.new)
+        (T.before_failed tree.old) (T.before_failed tree.new) }
     ensures faults { T.faults tree.new ≡
         faults_with (failed_in failed_call result) (T.faults tree.old) }
     ensures unchanged { T.changes tree.new ≡ T.changes tree.old }

@@ -62,8 +62,9 @@ impl UndoBuffer {
         ensures listed { T.Tells → IfOk result
             (λ u. IsNew switches (current_tree (T.history tree.old)) (T.fields tree.old) u) }
         ensures end { IfErr result IsFaultOrMemory }
-        ensures looked { T.Tells → OnlyLooked (failed_in failed_call result) (T.history tree.old) (T.history tree.new)
-            (T.fields tree.old) (T.fields tree.new) (T.before_failed tree.old) (T.before_failed tree.new) }
+        ensures looked { T.Tells → OnlyLooked (failed_in failed_call result)
+            (T.history tree.old) (T.history tree.new) (T.fields tree.old) (T.fields tree.new)
+            (T.before_failed tree.old) (T.before_failed tree.new) }
         ensures faults { T.faults tree.new ≡
             faults_with (failed_in failed_call result) (T.faults tree.old) }
         ensures unchanged { T.changes tree.new ≡ T.changes tree.old }
