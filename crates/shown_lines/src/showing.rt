@@ -92,7 +92,8 @@ pub fn shown_lines(
     omitting: Option<&Rules>,
 ) -> Result<Vec<Entry>, Memory>
     ensures { IfOk result (λ entries. entries.items ≡
-        shown (option_map (λ rules. rules.now) omitting.entry) marks.now.marks buffer.now.sections) }
+        shown (option_map (λ rules. rules.now) omitting.entry) marks.now.marks
+        buffer.now.sections) }
 {
     let mut omitter = omitter_of(omitting)?;
     let mut entries = Vec::new(alloc);
