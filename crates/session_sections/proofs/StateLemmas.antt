@@ -207,7 +207,7 @@ lines-steps paths b c count once law h sections e =
 
 unkilled-switches : (b : BufferState) (es : List Event) → (or_same (unkilled_by es b) b).switches ≡ b.switches
 unkilled-switches b [] = refl
-unkilled-switches b (Inserted dir ∷ es) = refl
+unkilled-switches b (Inserted at count dir ∷ es) = refl
 unkilled-switches b (Killed at rows ∷ es) = refl
 
 times-switches : (n : ℕ) (b : BufferState) → (unkilled_times n b).switches ≡ b.switches
