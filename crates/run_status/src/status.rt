@@ -155,6 +155,17 @@ pub enum Status {
     },
 }
 
+impl From<Memory> for Status {
+    ghost use Rattle.std.specs.Prelude.{◌≡◌};
+    ghost use Rattle.run_status.specs.declared.status.Status.TheVariants.{Memory as memory};
+
+    ghost from_gives = { λ _ status. status ≡ memory };
+
+    fn from(_error: Memory) -> Status {
+        Status::Memory
+    }
+}
+
 impl Status {
     ghost use Rattle.run_status.specs.Statuses.{number_of, text_of, has_fixed_text};
 

@@ -1,0 +1,5 @@
+pub mod Desks
+pub mod Commands
+pub mod Steps
+pub mod Ends
+pub mod Scripts
